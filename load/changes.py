@@ -35,7 +35,7 @@ secret = "{secret}"
 
 
 def further(number: int, wait: int) -> str:
-    """A realm that nobody asks."""
+    """Returns a realm that nobody asks."""
     return FURTHER.format(number=number, out=10000 + number, wait=wait, home=reload.HOME, acct=reload.HOME + 100,
                           secret=reload.SECRET.decode())
 
@@ -50,7 +50,7 @@ def change(server) -> tuple[float, float]:
 
 
 def measured(program: str, realms: int, words: argparse.Namespace, homes: list) -> str:
-    """A row of the table."""
+    """Returns a row of the table."""
     sent_before = sum(sum(home.told()[1].values()) for home in homes)
     with tempfile.TemporaryDirectory() as work:
         asked = [reload.Realm(realm) for realm in range(8)]

@@ -45,7 +45,7 @@ def configuration(options):
 
 
 def junk_of(size, id):
-    """A well-formed Access-Accept of so many octets with a wrong Response Authenticator."""
+    """Returns a well-formed Access-Accept of so many octets with a wrong Response Authenticator."""
     attributes, left = b"", size - 20
     while left:
         length = min(left, 254)
@@ -85,7 +85,7 @@ class Reached:
 
 
 def refused():
-    """What the log says was refused, by number: how often."""
+    """Returns what the log says was refused, by number: how often."""
     counts = {}
     with open(processes.LOG, "rb") as log:
         for line in log:
@@ -96,7 +96,7 @@ def refused():
 
 
 def dropped(ports):
-    """How many datagrams found the buffers of these ports full."""
+    """Returns how many datagrams found the buffers of these ports full."""
     with open("/proc/net/udp", encoding="ascii") as file:
         lines = [line.split() for line in file.readlines()[1:]]
     return sum(int(line[-1]) for line in lines if int(line[1].split(":")[1], 16) in ports)

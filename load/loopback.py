@@ -41,7 +41,7 @@ class Loop:
         return time.monotonic() - self.begin
 
     def open(self, address, take):
-        """A socket with that address; `take(octets, source)` is called for each datagram."""
+        """Returns a socket with that address; `take(octets, source)` is called for each datagram."""
         opened = socket.socket(socket.AF_INET, socket.SOCK_DGRAM)
         opened.setsockopt(socket.SOL_SOCKET, socket.SO_RCVBUF, 4 << 20)
         opened.bind(address)
@@ -152,7 +152,7 @@ def is_answer(octets, request, secret):
 
 
 def waited(request):
-    """How many seconds a request waited for its answer; forever where there is none."""
+    """Returns how many seconds a request waited for its answer; forever where there is none."""
     return float("inf") if request["answered"] is None else request["answered"] - request["asked"]
 
 
@@ -176,7 +176,7 @@ class Relay:
 
 
 def top(base, shards, **keys):
-    """The first lines of a configuration."""
+    """Returns the first lines of a configuration."""
     stated = {"shards": shards, "seed": secrets.token_hex(32), "auth": f"{HERE}:{base}", "acct": f"{HERE}:{base + 1}",
               **keys}
     return "".join(f"{name} = {value_text(value)}\n" for name, value in stated.items() if value is not None)
@@ -189,7 +189,7 @@ def value_text(value):
 
 
 def table(kind, **keys):
-    """A table of a configuration, without the keys that have no value."""
+    """Returns a table of a configuration, without the keys that have no value."""
     lines = [f"{key} = {value_text(value)}\n" for key, value in keys.items() if value is not None]
     return f"\n[[{kind}]]\n" + "".join(lines)
 

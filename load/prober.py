@@ -11,7 +11,7 @@ NAME = b"\x01\x07probe"
 
 
 def request(number):
-    """An Access-Request that names no realm."""
+    """Returns an Access-Request that names no realm."""
     head = bytes([1, number % 256]) + (20 + len(NAME)).to_bytes(2, "big")
     return head + number.to_bytes(16, "big") + NAME
 
@@ -51,7 +51,7 @@ class Prober(threading.Thread):
                 self.take(file, begin)
 
     def longest(self, count):
-        """The longest waits that lie half a second apart: (seconds, when it was asked for)."""
+        """Returns the longest waits that lie half a second apart: (seconds, when it was asked for)."""
         found = []
         for wait, asked in sorted(self.waits, reverse=True):
             if all(abs(asked - other) > 0.5 for _, other in found):

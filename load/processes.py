@@ -26,12 +26,12 @@ def end_with_parent():
 
 
 def processors(text):
-    """The processors that a text with commas between them names; none where it is empty."""
+    """Returns the processors that a text with commas between them names; none where it is empty."""
     return {int(number) for number in text.split(",")} if text else set()
 
 
 def on_processors(numbers):
-    """The same for a process that is to run on these processors alone, where any are named."""
+    """Returns the same for a process that is to run on these processors alone, where any are named."""
     def begin():
         end_with_parent()
         if numbers:
@@ -122,13 +122,13 @@ class Broker:
 
 
 def refused_in(line):
-    """The number of the refusals that a line of the broker's log tells, and how many they are; None where it tells none."""
+    """Returns the number of the refusals that a line of the broker's log tells, and how many they are; None where it tells none."""
     found = re.search(rb"refused (\d+)(?:.*\((\d+) times\))?", line)
     return found and (int(found.group(1)), int(found.group(2) or 1))
 
 
 def refusals():
-    """How often the broker's log tells each `refused N`."""
+    """Returns how often the broker's log tells each `refused N`."""
     counts = {}
     with open(LOG, "rb") as log:
         for line in log:
@@ -139,7 +139,7 @@ def refusals():
 
 
 def told():
-    """What the broker's log says of steps, of how often they were let go of, of lost packets and of dropped notices."""
+    """Returns what the broker's log says of steps, of how often they were let go of, of lost packets and of dropped notices."""
     sums = {"steps": 0, "let go of": 0, "packets lost": 0, "notices dropped": 0}
     with open(LOG, "rb") as log:
         for line in log:
@@ -174,7 +174,7 @@ def load_words(mode, options, realms, via, process, **more):
 
 
 def printed_by(words, seconds):
-    """The lines that the generator prints; they are added to `run/load.log`."""
+    """Returns the lines that the generator prints; they are added to `run/load.log`."""
     with open(PRINTED, "a", encoding="ascii") as log:
         log.write(" ".join(words) + "\n")
         process = subprocess.Popen(words, stdout=subprocess.PIPE, text=True,

@@ -156,7 +156,7 @@ def busiest_threads(section):
 
 
 def through_broker(options, mode, bound, **more):
-    """One run of the generator through the broker, which lasts `bound` seconds at most."""
+    """Returns one run of the generator through the broker, which lasts `bound` seconds at most."""
     realms = numbers_of(options.realms, "8")[0]
     shards = numbers_of(options.shards, "2")[0]
     with Homes(options, realms, bound + 60, int(mode == "interference")) as homes:
@@ -185,7 +185,7 @@ def interference_row(rate, way, label, section):
 
 
 def direct(options, mode, bound, **more):
-    """The same run without a broker: what of it the machine itself does."""
+    """Returns the same run without a broker: what of it the machine itself does."""
     realms = numbers_of(options.realms, "8")[0]
     with Homes(options, realms, bound + 60, int(mode == "interference")):
         return load(load_words(mode, options, realms, "direct", 0, **more), bound, shown=False)
@@ -221,7 +221,7 @@ def mutated(options):
 
 
 def others_of(options):
-    """The brokers that are measured beside each other: a name, and the options of each."""
+    """Returns the brokers that are measured beside each other: a name, and the options of each."""
     found = [("roam", options)]
     if options.old:
         old = copy.copy(options)
@@ -276,7 +276,7 @@ COUNTED = {"neither": ["log_exchanges = false"],
 
 
 def counts(options):
-    """What counting costs, and a line for each exchange: the closed loop with neither, with counts, and with both, by
+    """Returns what counting costs, and a line for each exchange: the closed loop with neither, with counts, and with both, by
     turns."""
     seconds = options.seconds or 5
     realms = numbers_of(options.realms, "8")[0]
@@ -321,7 +321,7 @@ def idle(options):
 
 
 def pauses(options):
-    """The longest times in which nobody is answered while steps are let go of, at `--rate` exchanges a second."""
+    """Returns the longest times in which nobody is answered while steps are let go of, at `--rate` exchanges a second."""
     seconds = options.seconds or 20
     realms = numbers_of(options.realms, "8")[0]
     shards = numbers_of(options.shards, "2")[0]

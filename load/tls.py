@@ -90,7 +90,7 @@ class Load:
             self.send(nth)
 
     def run(self, seconds):
-        """How many logins were accepted."""
+        """Returns how many logins were accepted."""
         of = {stream.connection: nth for nth, stream in enumerate(self.streams)}
         for nth in of.values():
             for _ in range(self.outstanding):

@@ -31,7 +31,7 @@ ROOT = HERE.parent
 
 
 def refused(crate: str) -> bool:
-    """Whether the prover refuses each edit of a crate."""
+    """Says whether the prover refuses each edit of a crate."""
     place = ROOT / "crates" / crate / "must-fail"
     was_there = place.exists()
     place.mkdir(exist_ok=True)
@@ -51,7 +51,7 @@ def refused(crate: str) -> bool:
 
 
 def function_of(edit: pathlib.Path) -> str | None:
-    """The function that is checked in the gate, where the edit names one."""
+    """Returns the function that is checked in the gate, where the edit names one."""
     found = re.search(r"^only: (.*)$", edit.read_text(encoding="utf-8"), re.M)
     return found[1] if found else None
 
@@ -61,15 +61,15 @@ NAMES = re.compile(r"has no field|is not in scope|has no `|was not admitted|not 
 
 
 def file_of(edit: pathlib.Path) -> str:
-    """The file that an edit changes, below its crate."""
+    """Returns the file that an edit changes, below its crate."""
     return re.search(r"^file: (.*)$", edit.read_text(encoding="utf-8"), re.M)[1]
 
 
 def lines_of(code: str, name: str) -> set[int]:
-    """The lines of the functions of this name, with their attributes, from 1."""
+    """Returns the lines of the functions of this name, with their attributes, from 1."""
     found, above, end = set(), [], ""
     for number, line in enumerate(code.splitlines(), 1):
-        begin = re.match(rf"( *)(?:pub(?:\(\w+\))? )?(?:const )?fn {name}\b", line)
+        begin = re.match(rf"( *)(?:pub(?:\(\w+\))? )?(?:const |unsafe )?fn {name}\b", line)
         if begin:
             found.update(above)
             end = begin[1] + "}"
@@ -81,7 +81,7 @@ def lines_of(code: str, name: str) -> set[int]:
 
 
 def judged(text: str, edit: pathlib.Path, code: str) -> str:
-    """What the prover's output says of an edit, whose file is this code then: nothing where it was refused, else what is wrong."""
+    """Returns what the prover's output says of an edit, whose file is this code then: nothing where it was refused, else what is wrong."""
     function = function_of(edit)
     name = function.rpartition("::")[2]
     unread = re.search(r"^(rattle: error|(\./)?(src|specs)/\S+ error).*", text, re.M)
@@ -97,7 +97,7 @@ def judged(text: str, edit: pathlib.Path, code: str) -> str:
 
 
 def batches(edits: list[pathlib.Path]) -> list[list[pathlib.Path]]:
-    """The edits of one crate, such that those of one function are apart."""
+    """Returns the edits of one crate, such that those of one function are apart."""
     made: list[list[pathlib.Path]] = []
     for it in edits:
         free = [of for of in made if function_of(it) not in map(function_of, of)]
@@ -123,7 +123,7 @@ def edit_copy(room: str, edit: pathlib.Path) -> bool:
 
 
 def refused_alone(crates: dict, edits: list[pathlib.Path]) -> bool:
-    """Whether the prover refuses each function that edits of one crate name."""
+    """Says whether the prover refuses each function that edits of one crate name."""
     import rtlib  # pylint: disable=import-outside-toplevel,import-error
     crate = crates[edits[0].parent.name]
     with tempfile.TemporaryDirectory(prefix="roam-edit-") as room:
@@ -143,7 +143,7 @@ def refused_alone(crates: dict, edits: list[pathlib.Path]) -> bool:
 
 
 def third_of(edits: list[pathlib.Path]) -> list[pathlib.Path]:
-    """Those of the edits that this commit's run tries, every third one from a place that its hash gives; says which these are."""
+    """Returns those of the edits that this commit's run tries, every third one from a place that its hash gives; says which these are."""
     asked = subprocess.run(["git", "rev-parse", "HEAD"], cwd=ROOT, capture_output=True, text=True, check=False)
     commit = asked.stdout.strip()
     if asked.returncode or not re.fullmatch("[0-9a-f]{40,}", commit):

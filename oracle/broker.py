@@ -7,6 +7,7 @@ broker.py --events NAME.conf NAME.script   both, event by event
 
 Nothing here is taken from the project's code.
 """
+import hashlib
 import ipaddress
 import sys
 import tomllib
@@ -85,7 +86,7 @@ class Config:
         for client in (client for realm in document["realm"] for client in realm.get("coa_client", [])):
             client["ip"] = one_text(client["ip"])
         for peer in self.peers:
-            peer["prefix"] = ipaddress.ip_network(peer["ip"])
+            peer["prefixes"] = [ipaddress.ip_network(text) for text in listed(peer["ip"])]
         self.realms = [with_unsaid(realm) for realm in document["realm"]]
         for realm in self.realms:
             realm["outs"] = [endpoint(text) for text in listed(realm["out"])]
@@ -93,8 +94,9 @@ class Config:
                 server["links"] = {k: endpoint(server[k]) for k in ("auth", "acct") if k in server}
 
     def peer_of(self, ip):
-        """The index of the access server with the longest prefix that has that address."""
-        having = [(p["prefix"].prefixlen, i) for i, p in enumerate(self.peers) if ipaddress.ip_address(ip) in p["prefix"]]
+        """The index of the access server with the longest of all prefixes that have that address."""
+        having = [(prefix.prefixlen, i) for i, peer in enumerate(self.peers) for prefix in peer["prefixes"]
+                  if ipaddress.ip_address(ip) in prefix]
         return max(having)[1] if having else None
 
     def names_of(self, realm):
@@ -124,7 +126,7 @@ class Config:
         table = self.realms[realm]
         addresses = [ip for server in table["server"] for ip, _ in server["links"].values()]
         is_loop = table.get("loop_prevention", False) and any(
-            ipaddress.ip_address(ip) in self.peers[peer]["prefix"] for ip in addresses)
+            ipaddress.ip_address(ip) in prefix for ip in addresses for prefix in self.peers[peer]["prefixes"])
         return self.is_peer_of(realm, peer) and not is_loop
 
     def link_of(self, realm, out, source):
@@ -237,10 +239,19 @@ class Realm:
 
     # Links
 
-    def server_links(self, code, first):
-        """The targets of a code among the home servers, from that one on: each by each own socket that sends there."""
-        kind = "auth" if code == ACCESS_REQUEST else "acct"
-        return [(kind, server, out) for server in range(first, len(self.table["server"]))
+    def servers_of(self, packet):
+        """The home servers that take a packet's code, in configured order, or turned by its user."""
+        kind = "auth" if packet.code == ACCESS_REQUEST else "acct"
+        servers = [number for number, server in enumerate(self.table["server"]) if kind in server["links"]]
+        if self.table.get("balance", "order") == "order" or not servers:
+            return servers
+        first = user_number(packet) % len(servers)
+        return servers[first:] + servers[:first]
+
+    def server_links(self, packet, servers):
+        """A packet's targets at these home servers: each by each own socket that sends there."""
+        kind = "auth" if packet.code == ACCESS_REQUEST else "acct"
+        return [(kind, server, out) for server in servers
                 for out in self.config.outs_to(self.index, self.table["server"][server]["links"][kind])]
 
     def coa_links(self, peer):
@@ -362,7 +373,7 @@ class Realm:
         if known is not None and known.request.packet.octets == request.packet.octets:
             return [] if known.waits() else [self.answer(request, known.reply)]
         if request.packet.code not in REVERSE_REQUESTS:
-            links = self.server_links(request.packet.code, 0)
+            links = self.server_links(request.packet, self.servers_of(request.packet))
             return self.take(now, request, known, links)
         peer = self.config.access_server_of(request.packet, self.index)
         cause = self.cause_against(request.packet, peer)
@@ -507,11 +518,20 @@ class Realm:
         if kind == "coa":
             return self.hold(now, entry, nak(request.packet, request.secret, NO_ANSWER), None)
         self.give_up(now, entry)
-        target = self.target(now, self.server_links(request.packet.code, index + 1), others)
+        servers = self.servers_of(request.packet)
+        behind = servers[servers.index(index) + 1:]
+        target = self.target(now, self.server_links(request.packet, behind), others)
         if target is None:
             self.entries = others
             return []
         return self.send(now, entry, target)
+
+
+def user_number(packet):
+    """The number by which a packet's user has a home server: of its Calling-Station-Id, or else of its User-Name."""
+    station, name = packet.first(CALLING_STATION_ID), packet.first(USER_NAME)
+    user = station if station is not None else name
+    return int.from_bytes(hashlib.md5(user or b"").digest()[:4], "big")
 
 
 def has_bad_passwords(request):

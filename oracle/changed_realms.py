@@ -86,6 +86,42 @@ row.reply(response(forward(q2, 1, 1)), [given_back(back(q2), "192.0.2.2:5000")])
 row.arrive(qa, 6)
 row.arrive(request(5, A, b"another"), [sent(forward(request(5, A, b"another"), 2, 2))])
 
+def at(addresses, peer=PEER):
+    """A peer's table with another `ip`."""
+    return peer.replace('ip = "192.0.2.1"', f"ip = {addresses}", 1)
+
+
+SECOND = "192.0.2.9:5000"
+ELSEWHERE = PEER.replace("nas1", "nas2").replace("192.0.2.1:3799", "192.0.2.2:3799").replace('nas_ip = "192.0.2.1"', 'nas_ip = "192.0.2.2"')
+q9 = forward(qa, 1, 1)
+row = Row("addresses-that-turn-come-and-go", file_of(at('["192.0.2.1", "192.0.2.9"]'), REALM_A))
+row.arrive(qa, [sent(fa)])
+row.arrive(qa, [sent(q9)], source=SECOND)
+row.change(file_of(at('["2001:db8::9", "192.0.2.9", "192.0.2.1"]'), REALM_A))
+row.arrive(qa, [])
+row.arrive(qa, [], source=SECOND)
+row.arrive(qa, [sent(forward(qa, 2, 2))], source="[2001:db8::9]:5000")
+row.reply(response(q9), [given_back(back(qa), SECOND)])
+row.change(file_of(at('["192.0.2.1", "192.0.2.8/29"]'), REALM_A))
+row.arrive(qa, [given_back(back(qa), SECOND)], source=SECOND)
+row.reply(response(forward(qa, 2, 2)), 14)
+row.change(file_of(PEER, REALM_A))
+row.arrive(qa, 4, source=SECOND)
+row.reply(response(fa), [given_back(back(qa))])
+row.change(file_of(at('["192.0.2.1", "192.0.2.9"]'), REALM_A))
+row.arrive(qa, [given_back(back(qa))])
+row.arrive(qa, [sent(forward(qa, 3, 3))], source=SECOND)
+
+row = Row("a-longer-prefix-of-another-peer", file_of(at('"192.0.2.0/24"'), REALM_A))
+row.arrive(qa, [sent(fa)])
+row.arrive(qa, [sent(q9)], source=SECOND)
+row.change(file_of(at('"192.0.2.0/24"'), at('["192.0.2.9", "10.0.0.1"]', ELSEWHERE), REALM_A))
+row.reply(response(q9), 14)
+row.arrive(qa, [sent(forward(qa, 2, 2))], source=SECOND)
+row.reply(response(fa), [given_back(back(qa))])
+row.change(file_of(at('["192.0.2.0/24", "192.0.2.9"]'), REALM_A))
+row.reply(response(forward(qa, 2, 2)), 14)
+
 row = Row("a-session-outlives-a-secret", BOTH)
 row.arrive(qa, [sent(fa)])
 row.reply(response(fa), [given_back(back(qa))])

@@ -46,7 +46,7 @@ class Change:
 
     def server_then(self, server):
         def identity(table):
-            return table["auth"], table.get("acct"), table["secret"]
+            return table.get("auth"), table.get("acct"), table["secret"]
         wanted = identity(self.old.table["server"][server])
         return next((at for at, table in enumerate(self.new.table["server"]) if identity(table) == wanted), None)
 
@@ -68,7 +68,8 @@ class Change:
                 return False
             source = self.new.config.home_of(self.new.index, request.source[0])
             return source is not None and source["secret"].encode() == request.secret
-        return self.peers.keeps(request.peer, "ip", "secret")
+        found = self.new.config.peer_of(request.source[0])
+        return found is not None and found == self.peers.then(request.peer) and self.peers.keeps(request.peer, "secret")
 
     def is_too_large(self, request):
         """Whether it couldn't be forwarded any more, with what is added for its access server now."""

@@ -70,9 +70,7 @@ max_sessions = {max_sessions}
 '''
 SERVER = '''
 [[realm.server]]
-auth = "{auth}"
-acct = "{acct}"
-secret = "{secret}"
+{endpoints}secret = "{secret}"
 '''
 # One that takes no accounting.
 NO_ACCT = '''
@@ -141,10 +139,19 @@ secret = "{secret}"
 
 
 def server(ip, secret, auth=":1812", acct=":1813", require_seal=None):
-    """A home server; where they aren't said its endpoints have the usual ports."""
-    endpoints = (end if end[0] != ":" else ip + end for end in (auth, acct))
-    text = SERVER.format(secret=secret, auth=next(endpoints), acct=next(endpoints))
-    return text + stated(require_seal=require_seal)
+    """A home server; where they aren't said its endpoints have the usual ports. One that is None isn't there."""
+    ends = {key: end if end is None or end[0] != ":" else ip + end for key, end in (("auth", auth), ("acct", acct))}
+    return SERVER.format(secret=secret, endpoints=stated(**ends)) + stated(require_seal=require_seal)
+
+
+def of_access(n, secret=None):
+    """A home server that takes Access-Requests alone."""
+    return server(f"198.51.100.{n}", secret or f"h{n}", acct=None)
+
+
+def of_accounting(n, secret=None, **keys):
+    """One that takes Accounting-Requests alone."""
+    return server(f"198.51.100.{n}", secret or f"h{n}", auth=None, **keys)
 
 
 def servers(count):
@@ -227,6 +234,11 @@ name = "{name}"
 ip = "{prefix}"
 secret = "{name}"
 """
+
+
+def at_addresses(peer, *addresses):
+    """The table of an access server, with these as its addresses."""
+    return re.sub(r'(?m)^ip = .*$', f"ip = {json.dumps(addresses)}", peer)
 
 
 def decided(peer=None, second=None, top=None, servers_of_first=None, peers=None, **keys):
@@ -419,6 +431,43 @@ def with_own(text, **keys):
 
 
 TWO_OUTS = ["127.0.0.1:2000", "127.0.0.1:2001"]
+APART = [of_access(1), of_accounting(2)]
+MIXED_SERVICES = [of_accounting(1), server("198.51.100.2", "h2"), of_access(3), of_accounting(4), of_access(5)]
+SERVICES = {
+    "services-apart": decided(servers_of_first=APART),
+    "services-apart-and-sealed": decided(servers_of_first=[of_access(1), of_accounting(2, require_seal=True)]),
+    "services-mixed": decided(servers_of_first=MIXED_SERVICES, tries=1),
+    "services-of-one-address": decided(servers_of_first=[
+        of_access(1), of_accounting(1, "h2"), of_accounting(3), client("198.51.100.3", "x"), client("198.51.100.9", "pc")]),
+    "services-that-rest": decided(servers_of_first=MIXED_SERVICES, tries=1, rest=10000),
+    "services-in-logins": decided(servers_of_first=MIXED_SERVICES, tries=1, rest=10000, conversations=True, hold=60000),
+    "services-apart-and-accounting-answered": decided(servers_of_first=APART, accounting="answer"),
+    "services-apart-and-no-loops": decided(
+        servers_of_first=APART, loop_prevention=True, peers=(NAS1, HOME2.replace("198.51.100.1", "198.51.100.2"))),
+    "services-of-both-kinds": configuration(with_places(
+        realm("a.example", [of_access(1), server("198.51.100.2", "h2", None, "[2001:db8:1::2]:1813")], tries=1, max_pending=600),
+        out=["127.0.0.1:2000", "[::1]:2000", "127.0.0.2:2000"])),
+    "balanced": one(2, balance="user"),
+    "balanced-and-shared": one(2, balance="user", share=2, also=["*"]),
+    "balanced-by-order": one(2, balance="order"),
+    "balanced-over-eight": decided(
+        servers_of_first=[server(f"198.51.100.{n}", "h1") for n in range(1, 9)], balance="user", tries=1, hold=0),
+    "balanced-and-a-way-back": decided(
+        servers_of_first=servers(2), balance="user", peers=(NAS1, N2_COA)),
+    "balanced-in-one-of-two": configuration(
+        realm("a.example", servers(3), balance="user"), realm("b.example", servers(2))),
+    "balanced-over-three": one(3, balance="user", tries=1),
+    "balanced-that-rest": resting(1, 3, balance="user"),
+    "balanced-services": decided(servers_of_first=MIXED_SERVICES, balance="user", tries=1),
+    "balanced-services-of-one-and-two": decided(
+        servers_of_first=[of_access(1), of_accounting(2), of_accounting(3)], balance="user"),
+    "balanced-in-logins": resting(1, 3, balance="user", conversations=True, hold=60000),
+    "balanced-in-short-logins": resting(1, 3, balance="user", conversations=True),
+    "balanced-by-two-outs": configuration(with_places(
+        realm("a.example", servers(2), balance="user", tries=1, wait=60000, max_pending=4096), out=TWO_OUTS)),
+    "balanced-by-what-does-not-pass": decided(
+        {"request_without": ["31"]}, servers_of_first=servers(2), balance="user"),
+}
 BOTH_OUTS = ["[::1]:2000", "127.0.0.1:2000", "127.0.0.3:2000"]
 MIXED = server("198.51.100.2", "h2", "[2001:db8:2::1]:1812")
 N2_AT_IPV6 = N2 + '''coa = "[2001:db8::2]:3799"
@@ -450,7 +499,41 @@ ADDRESSES = {
                at_prefix("homes", "198.51.100.0/30"))),
 }
 
+# Access servers at several addresses.
+NAS1_AT_THREE = at_addresses(NAS1, "192.0.2.1", "192.0.2.8/29", "2001:DB8:0::9")
+N3 = N2.replace("n2", "n3").replace("s2", "s3")
+SEVERAL = {
+    "several-addresses": decided(peers=(NAS1_AT_THREE,)),
+    "addresses-within-others": decided(peers=(
+        at_addresses(NAS1, "192.0.2.0/24", "10.1.0.0/16", "2001:db8::/32"),
+        at_addresses(N2, "192.0.2.7", "10.0.0.0/8", "10.1.2.0/24", "2001:db8:1::/48"),
+        at_addresses(N3, "0.0.0.0/0", "192.0.2.128/25", "2001:db8:1:1::/64", "::/0", "10.1.2.3"))),
+    "share-of-several-addresses": decided(peers=(NAS1_AT_THREE,), peer_share=2),
+    "logins-of-several-addresses": decided(
+        peers=(at_addresses(NAS1, "192.0.2.1", "192.0.2.9", "2001:db8::9"),
+               at_addresses(N2, "192.0.2.8/29").replace("s2", "xyzzy5461")),
+        servers_of_first=servers(2), rest=10000, conversations=True, tries=1, hold=60000),
+    "no-loops-by-any-address": decided(
+        second={}, peers=(at_addresses(NAS1, "192.0.2.1", "198.51.100.0/30"),), loop_prevention=True),
+    "own-sessions-of-several-addresses": decided(peers=(NAS1_AT_THREE,), own_sessions=True),
+    "keys-at-several-addresses": decided(
+        peers=(NAS1_AT_THREE + stated(require_seal=True, operator_name="inst.example", request_without=["30"], ask_cui=True),),
+        top={"status_server": True}),
+    "one-address-in-an-array": decided(peers=(at_addresses(NAS1, "192.0.2.1"), N2), peers_of="nas1"),
+    "two-servers-of-several-addresses": decided(
+        peers=(at_addresses(NAS1, "192.0.2.0/30", "2001:db8::9") + stated(reply_without=["25"]),), tries=1,
+        servers_of_first=servers(2)),
+}
+
 RANDOM = {
+    "addresses": configuration(
+        realm("a", [*servers(1), server("198.51.100.2", "h2", require_seal=True)], wait=10, hold=60, tries=1, max_pending=9,
+              max_sessions=4, rest=40, rest_after=1, also=["*.a", "*"], conversations=True, peer_share=4, own_sessions=True),
+        realm("b", servers(2), wait=8, hold=20, max_pending=6, max_sessions=3, loop_prevention=True, peers_of="nas1 n2 home1"),
+        peers=(at_addresses(NAS1, "192.0.2.0/29", "192.0.2.9", "2001:db8::/126") + stated(nas_ids=["wlc-*"]),
+               at_addresses(N2_COA, "192.0.2.2", "192.0.2.8/30", "2001:db8::2", "10.0.0.0/8"),
+               at_addresses(HOME1, "10.0.0.0/30", "198.51.100.1", "192.0.2.4/31")),
+        seed="6d" * 32, status_server=True),
     "own": configuration(
         realm("a", [*servers(1), client("198.51.100.9", "pc"), client("198.51.100.2", "p2")], wait=10, hold=20, tries=1, rest=30,
               max_pending=6, max_sessions=4, also=["*.a.b"], own_sessions=True, reply_without=["6", "26.9"]),
@@ -487,6 +570,46 @@ RANDOM = {
               own_names=True),
         realm("b", servers(2), wait=8, hold=30, max_pending=5, max_sessions=1, rest=25, rest_after=2, conversations=True, share=2),
         peers=(NAS1, N2, HOME1), seed="e9" * 32, max_attributes=8, status_server=True),
+    "balanced-realms": configuration(
+        realm("a", [of_accounting(1), server("198.51.100.2", "h2", require_seal=True), of_access(3), of_accounting(4), of_access(5)],
+              wait=10, hold=60, tries=1, max_pending=12, max_sessions=2, rest=60, rest_after=1, also=["*.a", "*"],
+              balance="user", conversations=True, peer_share=8),
+        realm("b", servers(3), wait=8, hold=30, tries=2, max_pending=9, max_sessions=1, rest=25, rest_after=2, balance="user",
+              share=4, request_without=["31"]),
+        peers=(NAS1, N2, HOME1), seed="4b" * 32, max_attributes=8, status_server=True),
+    "every-key": with_own(configuration(
+        with_places(realm("a", [of_access(1), MIXED, of_accounting(3, "b3"), of_access(5), of_accounting(4, require_seal=True),
+                                client("198.51.100.9", "pc"), client("198.51.100.3", "zz")],
+                          wait=10, hold=80, tries=1, max_pending=12, max_sessions=4, rest=40, rest_after=2, also=["*.a", "*"],
+                          balance="user", conversations=True, own_names=True, own_sessions=True, peer_share=7, share=5,
+                          reply_without=["6", "26.9"]),
+                    out=["127.0.0.1:2000", "[::1]:2000", "127.0.0.1:2001"], reverse=["127.0.0.1:3000", "127.0.0.3:3000"]),
+        with_places(realm("b", [server("198.51.100.1", "h1", require_seal=True), of_accounting(3), *servers(2)[1:]], wait=8, hold=30,
+                          tries=2, max_pending=9, max_sessions=3, rest=25, also=["*.b"], balance="user", own_sessions=True,
+                          loop_prevention=True, request_without=["30"], peers_of="nas1 n2 home1"),
+                    out=["127.0.0.1:2005", "127.0.0.2:2005"]),
+        peers=(at_addresses(NAS1, "192.0.2.0/29", "192.0.2.9", "2001:db8::/126")
+               + stated(nas_ids=["wlc-*"], operator_name="Inst.example", ask_cui=True),
+               at_addresses(N2_COA, "192.0.2.2", "192.0.2.8/30", "2001:db8::2", "10.0.0.0/8")
+               + stated(nas_ids=["wlc-7", "ap*"], operator_name="INST:ex", operator_namespace="4", limit_proxy_state=True,
+                        request_without=["126"]),
+               at_addresses(HOME1, "10.0.0.0/30", "198.51.100.1", "192.0.2.4/31") + stated(operator_name="inst:EX", operator_namespace="0")),
+        seed="e5" * 32, shards=2, fresh=10, max_attributes=12, max_hops=6, status_server=True, answer_unnamed=True, well_formed=True,
+        reject=["*.t"]), auth=["127.0.0.1:1812", "[::1]:1812"], acct=["127.0.0.1:1813", "127.0.0.1:1646"]),
+    "balanced-realms-in-two-shards": configuration(
+        realm("a", servers(3), wait=10, hold=100, tries=1, max_pending=9, rest=40, rest_after=1, conversations=True, own_names=True,
+              balance="user", also=["*.x"]),
+        realm("b", [server("198.51.100.1", "h1", require_seal=True), *servers(8)[1:]], wait=6, hold=40, tries=1, max_pending=12,
+              rest=0, peer_share=6, balance="user"),
+        realm("c", [of_access(1), of_access(2), of_accounting(2, "h3")], wait=7, hold=0, tries=2, max_pending=8, rest=30,
+              rest_after=2, balance="user", share=3, accounting="answer"),
+        peers=(NAS2, NAS1, NAS3), seed="8d" * 32, shards=2, max_attributes=12),
+    "realms-of-services-apart": configuration(
+        realm("a", [of_access(1), of_accounting(1, "h2"), of_access(2), of_accounting(3)], wait=10, hold=60, tries=1, max_pending=9,
+              max_sessions=3, rest=30, rest_after=1, also=["*.a", "*"], conversations=True),
+        realm("b", [of_accounting(1), of_access(1, "h2")], wait=8, hold=20, tries=2, max_pending=6, balance="order",
+              loop_prevention=True),
+        peers=(NAS1, N2, HOME1), seed="d2" * 32, max_attributes=8, status_server=True),
     "own-of-both-kinds": configuration(
         realm("a", [*servers(1), client("2001:db8::9", "pc")], wait=10, hold=20, tries=1, max_pending=6, max_sessions=4,
               also=["*.a.b"], own_sessions=True),
@@ -512,7 +635,7 @@ RANDOM = {
         peers=(NAS2, NAS1, NAS3), seed="1c" * 32, shards=2, max_attributes=12),
 }
 
-CONFIGURATIONS = POLICIES | REVERSES | LOGINS | ADDRESSES | PLACES | RANDOM | {
+CONFIGURATIONS = POLICIES | REVERSES | LOGINS | ADDRESSES | SEVERAL | PLACES | SERVICES | RANDOM | {
     "one-server": one(),
     "seal-required": configuration(realm("a.example", servers(1)), peers=(NAS1 + "require_seal = true\n",)),
     "no-session": one(max_sessions=0),

@@ -48,7 +48,8 @@ class AccessScript(Script):
 
     def address_of(self, peer):
         """An address of an access server."""
-        prefix = peer["prefix"]
+        prefixes = peer["prefixes"]
+        prefix = prefixes[0] if len(prefixes) == 1 else self.random.choice(prefixes)
         return str(prefix[0] if prefix.num_addresses == 1 else prefix[self.random.randrange(1, min(prefix.num_addresses, 9))])
 
     def id(self):

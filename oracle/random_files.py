@@ -1,6 +1,9 @@
 """The files of random scripts."""
 from random_access import AccessScript, VendorScript
+from random_addresses import AddressScript
+from random_balanced import BalancedScript
 from random_ends import EndsScript
+from random_every import EveryScript
 from random_federation import FederationScript, SilenceScript
 from random_logins import LoginScript
 from random_mutated import MutatedScript
@@ -35,6 +38,11 @@ FILES = {
     "logins-by-several": (LoginPlaceScript, "logins-by-several", 27001, 90),
     "logins-and-shares": (LoginScript, "logins-and-shares", 23001, 80),
     "logins-in-two-shards": (LoginScript, "logins-in-two-shards", 24001, 80),
+    "addresses": (AddressScript, "addresses", 29001, 90),
+    "balanced-logins": (BalancedScript, "balanced-realms", 30001, 90),
+    "balanced-in-two-shards": (BalancedScript, "balanced-realms-in-two-shards", 31001, 90),
+    "services-apart-in-logins": (BalancedScript, "realms-of-services-apart", 32001, 60),
+    "every-key": (EveryScript, "every-key", 33001, 30),
     "mutated": (MutatedScript, "all", 12001, 50),
     "mutated-and-shared": (MutatedScript, "all-and-shared", 13001, 50),
     "mutated-in-two-shards": (MutatedScript, "all-in-two-shards", 14001, 50),

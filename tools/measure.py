@@ -17,12 +17,12 @@ def product(root: pathlib.Path) -> list[pathlib.Path]:
 
 
 def made(path: pathlib.Path) -> bool:
-    """Whether a page is made by a tool, as its first line says."""
+    """Says whether a tool makes the page, as its first line says."""
     return path.read_text(encoding="utf-8").startswith("<!-- Made by")
 
 
 def by_hand_in(path: pathlib.Path) -> int:
-    """How many words of a page are written by hand: not a page that a tool makes, nor what it makes between two marks."""
+    """Counts the words of a page that are written by hand: none of a page that a tool makes, nor between its two marks on one."""
     text = re.sub(r"<!-- (\w+): made by .*?<!-- \1: end -->", "", path.read_text(encoding="utf-8"), flags=re.S)
     return 0 if made(path) else len(text.split())
 
@@ -62,9 +62,9 @@ def measures(root: pathlib.Path) -> list[tuple[str, str]]:
         rows.append((f"{kind}: files, longest, lines, over 120 columns (no imports)",
                      f"{len(texts)}, {max(it.count(chr(10)) for it in texts)}, {len(lines)}, {sum(len(it) > 120 and not re.match(r'.*use ', it) for it in lines)}; imports {imports}"))
     pages = sorted((root / "docs").glob("*.md"))
-    by_hand = sum(by_hand_in(it) for it in pages)
+    by_hand = sum(by_hand_in(it) for it in [root / "README.md", *pages])
     made_of = sum(len(it.read_text(encoding="utf-8").split()) for it in (root / "docs").glob("*.txt") if it.name != "minutes.txt")
-    rows.append(("pages: words by hand (and in what pages are made of), generated",
+    rows.append(("README and docs: words by hand (and in the lists that pages are made of), generated",
                  f"{by_hand} ({made_of}), {sum(len(it.read_text(encoding='utf-8').split()) for it in pages if made(it))}"))
     rows.append(("README: words, lines", f"{len((root / 'README.md').read_text(encoding='utf-8').split())}, "
                  f"{(root / 'README.md').read_text(encoding='utf-8').count(chr(10))}"))

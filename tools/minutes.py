@@ -35,7 +35,7 @@ PACE = re.compile(r"^# pace: (.*)$", re.M)
 
 
 def below(process: int) -> list[int]:
-    """A process and all that stand below it."""
+    """Returns a process and all that stand below it."""
     children = collections.defaultdict(list)
     for entry in os.listdir("/proc"):
         if entry.isdigit():
@@ -64,7 +64,7 @@ def crate_and_kind(process: int) -> tuple[str, str] | None:
 
 
 def is_proving(process: int) -> bool:
-    """Whether a process proves something: a pass over names and types alone has no logic among its words."""
+    """Says whether a process proves something: a pass over names and types alone has no logic among its words."""
     return b"\0--logic-built\0" in pathlib.Path("/proc", str(process), "cmdline").read_bytes()
 
 
@@ -85,7 +85,7 @@ def look(process: int, seen: dict[tuple[int, str], tuple[tuple[str, str], float]
 
 
 def seconds_of_loop() -> float:
-    """What a million steps of a loop take of a processor now, in seconds."""
+    """Returns what a million steps of a loop take of a processor now, in seconds."""
     begin, steps = time.process_time(), 0
     for step in range(STEPS):
         steps += step * step
@@ -165,12 +165,12 @@ def lines_of(minutes: dict[str, dict[str, float]]) -> str:
 
 
 def read(text: str) -> dict[str, dict[str, float]]:
-    """The minutes that a text has, by crate."""
+    """Returns the minutes that a text has, by crate."""
     return {found[0]: dict(zip(KINDS, map(float, found[1:]))) for found in LINE.findall(text)}
 
 
 def table() -> str:
-    """The table of the page: what takes longest of each kind, and what the others take together."""
+    """Returns the table of the page: what takes longest of each kind, and what the others take together."""
     text = KEPT.read_text(encoding="utf-8")
     minutes, rows = read(text), []
     names = {"proof": "proofs", "tests": "tests, proved", "edits": "must-fail edits", "runs": "programs and tests, run"}

@@ -9,7 +9,7 @@ The parts, each a module of tools/making, whose head says of what it is made and
     asked          docs/ASKED.md, what is asked and where it is proved
     theorem        docs/THEOREM.md, the headline with each definition under it
     definitions    docs/DEFINITIONS.md, all definitions; not kept in the repository
-    metrics        docs/METRICS.md
+    metrics        the metrics in docs/FILES.md
     pictures       docs/pictures/*.svg
     lists          the lists of packaging/installed/roam.8; keys, refusals, faults and usage stand once, and agree
     mistakes       mistakes/README.md

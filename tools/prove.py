@@ -30,7 +30,7 @@ MINUTES = {crate: sum(of.values()) for crate, of in minutes.read(minutes.KEPT.re
 
 
 def dependencies() -> dict[str, list[str]]:
-    """The crates of this repository, each with those of them that it uses."""
+    """Returns the crates of this repository, each with those of them that it uses."""
     found = {}
     for line in (ROOT / "crates.txt").read_text(encoding="utf-8").splitlines():
         name, colon, uses = line.split("#")[0].partition(":")
@@ -62,14 +62,14 @@ class Plan:
                 self.done.add(step)
 
     def below(self, name: str) -> list[str]:
-        """All crates that a crate stands on."""
+        """Returns all crates that a crate stands on."""
         found: list[str] = []
         for crate in self.uses[name]:
             found += [it for it in self.below(crate) + [crate] if it not in found]
         return found
 
     def weight(self, step: str) -> int:
-        """How long the longest way is from here to a goal."""
+        """Returns how long the longest way is from here to a goal."""
         above = [it for it, needs in self.needs.items() if step in needs]
         return MINUTES.get(step, 1) + max((self.weight(it) for it in above), default=0)
 
@@ -102,7 +102,7 @@ class Plan:
 
 
 def digest(names: list[str]) -> str:
-    """What a step depends on: the texts of a crate and of all below it, and what crates.txt says of them."""
+    """Returns what a step depends on: the texts of a crate and of all below it, and what crates.txt says of them."""
     made = hashlib.sha256()
     for name in sorted(names):
         made.update(f"{name}: {dependencies()[name]}".encode())
@@ -118,7 +118,7 @@ def carry(source: pathlib.Path, target: pathlib.Path, *more: str) -> None:
 
 
 def words_of(step: str, folder: pathlib.Path) -> list[str]:
-    """The command of a step."""
+    """Returns the command of a step."""
     name, _, kind = step.partition(":")
     is_program = (folder / "crates" / name / "src" / "main.rt").exists()
     if kind == "edits":

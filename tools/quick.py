@@ -19,7 +19,7 @@ import rtlib  # noqa: E402
 
 
 def passes(crate) -> bool:
-    """Whether the quick pass finds nothing; what it finds is printed."""
+    """Says whether the quick pass finds nothing; what it finds is printed."""
     if rtlib.fmt(crate.folder, "--check", sys.stdout):
         print(f"{crate.name}: run rt fmt in its folder", flush=True)
         return False

@@ -19,7 +19,7 @@ PLAIN = importlib.machinery.SourceFileLoader.exec_module
 
 
 def kept(call):
-    """A call of a crate that answers for each folder what it answered first."""
+    """Returns a call of a crate that answers for each folder what it answered first."""
     answers: dict = {}
 
     def answer(crate):

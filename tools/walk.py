@@ -22,7 +22,7 @@ PASSES = ("roam_wire::view::View::attributes",)
 
 
 def calls_in(body, found: list) -> list:
-    """All calls of a body."""
+    """Returns all calls of a body."""
     if isinstance(body, dict):
         for key, value in body.items():
             if key == "Call":
@@ -35,7 +35,7 @@ def calls_in(body, found: list) -> list:
 
 
 def library(tree: pathlib.Path) -> dict[str, list]:
-    """The calls of each function of the built libraries."""
+    """Returns the calls of each function of the built libraries."""
     calls: dict[str, list] = {}
     for path in tree.glob("crates/*/out/rlib/*.rlib/toolchain/mir.json"):
         for name, function in json.loads(path.read_text(encoding="utf-8")):
@@ -70,7 +70,7 @@ class Walk:
             waiting += [it for it in self.targets[name] if it in self.calls]
 
     def depth(self, name: str) -> int:
-        """The longest way down, each function once."""
+        """Returns the longest way down, each function once."""
         known: dict[str, int] = {}
 
         def of(it: str, above: frozenset) -> int:
@@ -83,7 +83,7 @@ class Walk:
 
 
 def names_in(values) -> list[str]:
-    """The names that stand in types and dictionaries."""
+    """Returns the names that stand in types and dictionaries."""
     found = []
     if isinstance(values, str) and "::" in values:
         found.append(values)

@@ -19,7 +19,7 @@ AFTER = (",", ";", "→", "↦", "in", "=", "[")
 
 
 def places(line: str) -> list[tuple[float, int]]:
-    """The blanks at which a line may be broken: how bad each is, and where."""
+    """Returns the blanks at which a line may be broken: how bad each is, and where."""
     found, depth, is_text = [], 0, False
     first = len(line) - len(line.lstrip())
     for at, letter in enumerate(line[:COLUMNS - 2]):
@@ -41,7 +41,7 @@ def places(line: str) -> list[tuple[float, int]]:
 
 
 def wrapped(line: str) -> list[str]:
-    """A line as lines."""
+    """Returns a line as lines."""
     lines = []
     indent = len(line) - len(line.lstrip())
     begins_on = line.lstrip().split(" ")[0] in BEFORE + RELATIONS

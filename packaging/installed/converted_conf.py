@@ -8,6 +8,8 @@ import sys
 
 NAME = re.compile(r"[A-Za-z0-9.-]{1,253}\Z")
 TABLES, SERVERS, PLACES, ALSO, REJECTS = 1024, 8, 8, 256, 1024
+# The most addresses of a peer.
+PREFIXES = 8
 # Behind `*` a server is silent where one home server behind it is.
 REST_AFTER_OF_ALL, HOPS = 50, 10
 
@@ -39,7 +41,7 @@ class Written:
         self.put(f"# Changed: {printable(what)}")
 
     def own_address(self, candidates, kind):
-        """The first of this machine's addresses that is of the kind. Where there is none, a word of one that has to be written."""
+        """Returns the first of this machine's addresses that is of the kind. Where there is none, a word of one that has to be written."""
         found = next((it for it in candidates if it and kind_of(it) == kind), None)
         if found:
             return found
@@ -50,7 +52,7 @@ class Written:
         return placeholder
 
     def own_addresses(self, candidates, endpoints):
-        """One of this machine's addresses of each kind that one of the endpoints has, in their order."""
+        """Returns one of this machine's addresses of each kind that one of the endpoints has, in their order."""
         return [self.own_address(candidates, kind) for kind in dict.fromkeys(kind_of(it[0]) for it in endpoints)]
 
 
@@ -59,7 +61,7 @@ def printable(text):
 
 
 def address_of(text):
-    """An address of IPv4 or IPv6, with one spelling for each. None for a zone, for 0.0.0.0 and ::, and for what is none."""
+    """Returns an address of IPv4 or IPv6, with one spelling for each. None for a zone, for 0.0.0.0 and ::, and for what is none."""
     try:
         address = ipaddress.ip_address(text)
     except ValueError:
@@ -70,7 +72,7 @@ def address_of(text):
 
 
 def network_of(text):
-    """A prefix, or an address as one of all its bits; None for what is neither. Bits that don't count become 0."""
+    """Returns a prefix, or an address as one of all its bits; None for what is neither. Bits that don't count become 0."""
     try:
         network = ipaddress.ip_network(text if "/" in text else address_of(text) or "", strict=False)
     except ValueError:
@@ -79,12 +81,28 @@ def network_of(text):
 
 
 def network_text(network):
-    """A prefix as roam's `ip` has it."""
+    """Returns a prefix as roam's `ip` has it."""
     return str(network.network_address if network.prefixlen == network.max_prefixlen else network)
 
 
+def network_texts(networks):
+    """Returns one prefix, or a list of them, as a value."""
+    texts = [f'"{network_text(it)}"' for it in networks]
+    return texts[0] if len(texts) == 1 else "[" + ", ".join(texts) + "]"
+
+
+def by_so_many(these, count):
+    """Returns the parts of a list, each of so many or, the last, of fewer."""
+    return [these[at:at + count] for at in range(0, len(these), count)]
+
+
+def is_in_one(network, networks):
+    """Says whether a prefix lies in one of these."""
+    return any(network.version == it.version and network.subnet_of(it) for it in networks)
+
+
 def parts_of(text):
-    """The host and the port that stands behind it, or an empty text. An address of IPv6 with a port is in brackets."""
+    """Returns the host and the port that stands behind it, or an empty text. An address of IPv6 with a port is in brackets."""
     if text.startswith("["):
         host, closed_by, rest = text[1:].partition("]")
         return host, rest.removeprefix(":") if closed_by and rest[:1] in ("", ":") else "none"
@@ -93,7 +111,7 @@ def parts_of(text):
 
 
 def looked_up(name):
-    """The address of a name now: of IPv4 where it has one."""
+    """Returns the address of a name now: of IPv4 where it has one."""
     try:
         found = [it[4][0] for it in socket.getaddrinfo(name, None, type=socket.SOCK_DGRAM)]
     except (OSError, UnicodeError):
@@ -102,7 +120,7 @@ def looked_up(name):
 
 
 def endpoint_of(text, port, options):
-    """An address and a port of `address`, `*`, `name` and these with a port; None for what is no address."""
+    """Returns an address and a port of `address`, `*`, `name` and these with a port; None for what is no address."""
     host, stated = parts_of(text)
     stated = stated or str(port)
     if not stated.isdigit() or not 1 <= int(stated) <= 65535:
@@ -127,13 +145,13 @@ def endpoint_text(endpoint):
 
 
 def endpoint_texts(endpoints):
-    """One endpoint, or a list of them, as a value."""
+    """Returns one endpoint, or a list of them, as a value."""
     texts = [endpoint_text(it) for it in endpoints]
     return texts[0] if len(texts) == 1 else "[" + ", ".join(texts) + "]"
 
 
 def fault_of(secret):
-    """A secret as text, or why it can't be written."""
+    """Returns a secret as text, or why it can't be written."""
     if secret is None:
         return None, "it has no secret"
     octets = secret.encode(errors="surrogateescape")
@@ -146,7 +164,7 @@ def fault_of(secret):
 
 
 def peer_name(text, taken):
-    """A name for a peer that no other has."""
+    """Returns a name for a peer that no other has."""
     name = re.sub(r"[^A-Za-z0-9._-]", "-", text)[:58] or "client"
     chosen, number = name, 2
     while chosen in taken:
@@ -156,12 +174,12 @@ def peer_name(text, taken):
 
 
 def tidy(lines):
-    """One empty line between two parts, and none at the end."""
+    """Returns one empty line between two parts, and none at the end."""
     return re.sub(r"\n{3,}", "\n\n", "\n".join(lines)).strip("\n") + "\n"
 
 
 def options_of(about, conf):
-    """The words of a converter's command line."""
+    """Returns the words of a converter's command line."""
     parser = argparse.ArgumentParser(description=about, formatter_class=argparse.RawDescriptionHelpFormatter)
     parser.add_argument("conf", help=conf, **({} if conf.startswith("the ") else {"nargs": "+"}))
     parser.add_argument("--address", help="this machine's address, where the file names none")

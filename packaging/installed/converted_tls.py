@@ -42,7 +42,7 @@ FOLDER, TAKE, LOOPBACK = "/etc/roam/tls", ("127.0.0.1", 12083), "127.0.0.1"
 
 
 def literal(expression):
-    """The one text that an expression takes, as `/^a\\.example$/`; None where it takes several."""
+    """Returns the one text that an expression takes, as `/^a\\.example$/`; None where it takes several."""
     found = re.fullmatch(r"/?\^?((?:[A-Za-z0-9_ -]|\\?\.)+)\$?/?", expression or "")
     return found and found[1].replace("\\", "")
 
@@ -68,14 +68,14 @@ class Front:
         self.binds.append(f"{host}:{port or 2083}")
 
     def peer(self, name, subjects):
-        """The address of a client, whose certificates have these names."""
+        """Returns the address of a client, whose certificates have these names."""
         number = len(self.peers)
         self.peers[name] = address = f"127.1.{number // 250}.{number % 250 + 1}"
         self.subjects.update((subject, name) for subject in subjects)
         return address
 
     def server(self, name, host, port, subject, address=None):
-        """The address of a server: one for each host and port. An address that is named is taken for a new one."""
+        """Returns the address of a server: one for each host and port. An address that is named is taken for a new one."""
         place, number = (host, port), len(self.servers)
         if place not in self.servers:
             chosen = address or f"127.2.{number // 250}.{number % 250 + 1}"
@@ -90,7 +90,7 @@ class Front:
                 server.reverse = server.reverse or reverse
 
     def has(self, address):
-        """Whether an address is a server's."""
+        """Says whether an address is a server's."""
         return any(it.address == address for it in self.servers.values())
 
     def is_used(self):
@@ -118,7 +118,7 @@ class Front:
         return "".join(it + "\n" for it in lines + [f"# The common name of its certificate: .. {it}" for it in self.peers if it not in self.subjects.values()])
 
     def streams(self, auths, accts):
-        """What `roam streams` reads; the broker has these endpoints."""
+        """Returns what `roam streams` reads; the broker has these endpoints."""
         lines = ["# Written by a converter. `roam check --streams` judges it."]
         if self.peers:
             own = [next(it for it in ends if is_ipv4(it[0])) for ends in (auths, accts)]

@@ -52,12 +52,12 @@ DIGITS = 54
 
 
 def octets(text):
-    """The octets of a value between quotation marks."""
+    """Returns the octets of a value between quotation marks."""
     return re.sub(rb'\\x([0-9a-f]{2})', lambda m: bytes([int(m[1], 16)]), text.encode())
 
 
 def pairs(text):
-    """The keys of a line and their values: octets, or None where there is a hyphen. None where it isn't such a line. A station by
+    """Returns the keys of a line and their values: octets, or None where there is a hyphen. None where it isn't such a line. A station by
     its hash has a key of its own, and a hidden one isn't there: neither stands between quotation marks."""
     found, place = {}, 0
     while place < len(text):
@@ -73,13 +73,13 @@ def pairs(text):
 
 
 def mac_of(value):
-    """The 12 hexadecimal digits of a MAC address, in small letters; None where the value is none."""
+    """Returns the 12 hexadecimal digits of a MAC address, in small letters; None where the value is none."""
     found = MAC.match(value)
     return re.sub(rb'[^0-9a-f]', b'', found[0].lower()) if found else None
 
 
 def station(value, form, key):
-    """A Calling-Station-Id in this form."""
+    """Returns a Calling-Station-Id in this form."""
     if form == 'Static':
         return 'undisclosed'
     if form == 'Original':
@@ -95,12 +95,12 @@ def station(value, form, key):
 
 
 def csi(said, form, key):
-    """What a line says of its station, in this form; its hash as it is."""
+    """Returns what a line says of its station, in this form; its hash as it is."""
     return plain(said['hash']) if said.get('hash') and form != 'Static' else station(said.get('station'), form, key)
 
 
 def plain(value):
-    """Text that no octet of a value can break: neither a number sign nor an equals sign stands in it."""
+    """Returns text that no octet of a value can break: neither a number sign nor an equals sign stands in it."""
     return re.sub(r'[^A-Za-z0-9.:@_-]', '_', value.decode('ascii', 'replace'))
 
 
@@ -152,7 +152,7 @@ class Cursor:
 
 
 def command(options, cursor):
-    """What reads the journal from the cursor on, its own entry first where that is still there. (Where it is gone, --after-cursor
+    """Returns what reads the journal from the cursor on, its own entry first where that is still there. (Where it is gone, --after-cursor
     leaves out the next one.)"""
     words = ['journalctl', '--output=json', '--all', '--no-pager', '--quiet', f'--unit={options.unit}']
     for name, value in [('namespace', options.namespace), ('directory', options.directory)]:
@@ -165,7 +165,7 @@ def command(options, cursor):
 
 
 def journal(stream, cursor):
-    """The messages of the journal behind the cursor, and what keeps where each stood: at once where it made a line, else at the
+    """Returns the messages of the journal behind the cursor, and what keeps where each stood: at once where it made a line, else at the
     end. An entry that isn't whole is none."""
     for entry in stream:
         if not entry.endswith(b'\n'):

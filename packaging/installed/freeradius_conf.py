@@ -20,7 +20,7 @@ class Section:
         return (self.all(key) or [default])[-1]
 
     def says(self, key):
-        """Whether it says yes; none where it says neither that nor no."""
+        """Says whether it says yes; none where it says neither that nor no."""
         return {"yes": True, "on": True, "1": True, "no": False, "off": False, "0": False}.get((self.get(key) or "").lower())
 
     def own(self, kind):
@@ -28,7 +28,7 @@ class Section:
         return [it for it in self.sections if it.kind == kind]
 
     def of(self, kind):
-        """All sections of a kind in it, at any depth."""
+        """Returns all sections of a kind in it, at any depth."""
         return [it for one in self.sections for it in ([one] if one.kind == kind else one.of(kind))]
 
 
@@ -36,7 +36,7 @@ WORD = re.compile(r'"((?:[^"\\]|\\.)*)"|\'((?:[^\'\\]|\\.)*)\'|([{}])|(:=|\+=|==
 
 
 def words_of(line):
-    """The words of a line, each with whether it was quoted; nothing of a comment."""
+    """Returns the words of a line, each with whether it was quoted; nothing of a comment."""
     found, at = [], 0
     while True:
         at += len(line[at:]) - len(line[at:].lstrip())
@@ -108,7 +108,7 @@ def include(section, path, name, missed, named):
 
 
 def read(paths):
-    """All that the files say, as one section, and what they include that wasn't found. Of a folder its radiusd.conf is read."""
+    """Returns all that the files say, as one section, and what they include that wasn't found. Of a folder its radiusd.conf is read."""
     root, missed = Section("", ""), []
     files = [os.path.join(path, "radiusd.conf") if os.path.isdir(path) else path for path in paths]
     named = {os.path.realpath(path): path for path in reversed(files)}

@@ -10,8 +10,8 @@ Where a whole client or realm isn't carried over, its status is 1.
 
 import sys
 
-from converted_conf import (ALSO, HOPS, NAME, PLACES, REJECTS, REST_AFTER_OF_ALL, SERVERS, TABLES, Written, closed, endpoint_of, fault_of, kind_of,
-                            network_of, network_text, options_of, peer_name, toml)
+from converted_conf import (ALSO, HOPS, NAME, PLACES, PREFIXES, REJECTS, REST_AFTER_OF_ALL, SERVERS, TABLES, Written, closed, endpoint_of, fault_of,
+                            kind_of, network_of, network_text, network_texts, options_of, peer_name, toml)
 from converted_conf import endpoint_text as written, endpoint_texts as written_all
 from converted_tls import FOLDER, LOOPBACK, Front, literal
 from freeradius_conf import Unreadable, read
@@ -31,15 +31,17 @@ REASONS = {
 INSIDE = {"coa": "`wait` and `tries` of the realm count for Disconnects too", "limit": "`max_pending`, `share` and `peer_share` of the realm bound what waits",
           "tls": "UDP alone"}
 ADDRESSES = ("ipaddr", "ipv4addr", "ipv6addr")
+# What is said of a client's Message-Authenticators.
+SEALS = ("require_message_authenticator", "limit_proxy_state")
 
 
 def stated_address(section):
-    """What a section has of the keys of an address, or an empty text."""
+    """Returns what a section has of the keys of an address, or an empty text."""
     return next((section.get(key) for key in ADDRESSES if section.get(key)), "")
 
 
 def is_tls(section):
-    """Whether a client or home server speaks TLS."""
+    """Says whether a client or home server speaks TLS."""
     return (section.get("proto") or "udp").lower() == "tls" or bool(section.own("tls"))
 
 
@@ -58,6 +60,7 @@ class Conversion:
         self.inner = [it for server in root.of("server") if "inner" in server.name for it in server.of("listen")]
         self.clients = [*root.own("client"), *(it for group in root.own("clients") for it in group.own("client") if is_tls(it))]
         self.used, self.addresses, self.names, self.front = set(), set(), set(), Front()
+        self.peers, self.joined = 0, []
         self.lost_parts, self.lost_tables, self.rejects, self.reject_at, self.realms, self.taken = [], [], [], 0, 0, []
 
     def run(self):
@@ -106,12 +109,12 @@ class Conversion:
     # The top of the file
 
     def all_listening(self, kinds):
-        """The listen sections of such a type, but for those that haproxy has."""
+        """Returns the listen sections of such a type, but for those that haproxy has."""
         return [it for it in self.root.of("listen")
                 if (it.get("type") or "").lower() in kinds and it not in self.inner and not it.own("tls")]
 
     def listening(self, kinds):
-        """The first of them with its endpoint's parts."""
+        """Returns the first of them with its endpoint's parts."""
         return next(iter(self.all_listening(kinds)), None)
 
     def endpoint_at(self, section, port):
@@ -167,7 +170,9 @@ class Conversion:
     # Clients
 
     def write_client(self, section):
-        out, before = self.out, len(self.addresses)
+        if section in self.joined:
+            return
+        out, before = self.out, self.peers
         secret, fault = secret_of(section)
         if (section.get("proto") or "udp").lower() not in ("udp", "*", "tls"):
             fault = f"no {section.get('proto').upper()}"
@@ -176,22 +181,48 @@ class Conversion:
             out.lose(f"client {section.name}: {fault}")
         elif network in self.addresses:
             out.lose(f"client {section.name}: {network_text(network)} is a client before it")
-        elif network and len(self.addresses) == TABLES:
+        elif network and self.peers == TABLES:
             out.lose(f"client {section.name}: roam takes {TABLES} peers")
         elif network:
-            self.write_peer(section, network, secret)
-        if len(self.addresses) == before:
+            self.write_peer(section, self.with_those_beside(section, network), secret)
+        if self.peers == before:
             self.lost_tables.append(f"client {section.name}")
 
+    def group_of(self, section):
+        """Returns what the clients of one peer have in common: the shortname, the secret and the seals. None for one that stands alone."""
+        (secret, fault), short = secret_of(section), section.get("shortname")
+        if not short or fault or is_tls(section) or section.get("coa_server") or (section.get("proto") or "udp").lower() not in ("udp", "*"):
+            return None
+        return short, secret, *(self.said(section, key).lower() for key in SEALS)
+
+    def with_those_beside(self, section, network):
+        """Returns the prefix of a client, and those of further clients of its group, which are this peer's too."""
+        networks, group = [network], self.group_of(section)
+        for other in self.clients[self.clients.index(section) + 1:] if group else []:
+            if len(networks) == PREFIXES:
+                break
+            if other in self.joined or self.group_of(other) != group:
+                continue
+            self.joined.append(other)
+            beside = self.network(other, stated_address(other) or other.name)
+            if beside and beside not in self.addresses:
+                networks += [beside] if beside not in networks else []
+                self.lose_settings(other, ("proto",))
+                continue
+            if beside:
+                self.out.lose(f"client {other.name}: {network_text(beside)} is a client before it")
+            self.lost_tables.append(f"client {other.name}")
+        return networks
+
     def network_of_tls(self, section):
-        """The address that haproxy gives the connections of a client's certificate."""
+        """Returns the address that haproxy gives the connections of a client's certificate."""
         name = peer_name(section.get("shortname") or section.name, set(self.names))
         self.out.change(f"client {section.name}: haproxy has its TLS, and gives its connections this address, from wherever they come (docs/TLS.md):"
                         " write the common name of its certificate into names.map")
         return network_of(self.front.peer(name, []))
 
     def network(self, section, text):
-        """The address or prefix of a client, if requests from there can come to `auth`."""
+        """Returns the address or prefix of a client, if requests from there can come to `auth`."""
         text = f"{text}/{section.get('netmask')}" if section.get("netmask") and "/" not in text else text
         found = None if "/" in text else endpoint_of(text, 1, self.options)
         network = network_of(found[0] if found else text)
@@ -202,15 +233,19 @@ class Conversion:
             return None
         return network
 
+    def said(self, section, key):
+        """Returns what is said of a client: by itself, or else for all."""
+        return section.get(key) or self.security and self.security.get(key) or "no"
+
     def wants(self, section, key):
-        """Whether yes is said of a client: by itself, or else for all."""
-        said = section.get(key) or self.security and self.security.get(key) or "no"
+        """Says whether yes is said of a client."""
+        said = self.said(section, key)
         if said.lower() == "auto":
             self.out.change(f"client {section.name}: {key} auto: there is no auto, so it isn't required")
         return said.lower() in ("yes", "on", "1")
 
     def coa_of(self, section, network):
-        """Where Disconnects go for a client, with the key and the address that they name it by."""
+        """Returns where Disconnects go for a client, with the key and the address that they name it by."""
         name, is_one = section.get("coa_server"), network.prefixlen == network.max_prefixlen
         coa = self.homes.get(name or "")
         place = coa and endpoint_of(stated_address(coa), int(coa.get("port") or 3799), self.options)
@@ -226,13 +261,14 @@ class Conversion:
             return [f"coa = {written(place)}", f'{key} = "{network_text(network)}"']
         return []
 
-    def write_peer(self, section, network, secret):
+    def write_peer(self, section, networks, secret):
         out = self.out
-        self.addresses.add(network)
+        self.addresses |= set(networks)
+        self.peers += 1
         seal, limit = self.wants(section, "require_message_authenticator"), self.wants(section, "limit_proxy_state")
         self.lose_settings(section, ("proto",))
-        coa = self.coa_of(section, network)
-        out.put("[[peer]]", f"name = {toml(peer_name(section.get('shortname') or section.name, self.names))}", f'ip = "{network_text(network)}"',
+        coa = self.coa_of(section, networks[0])
+        out.put("[[peer]]", f"name = {toml(peer_name(section.get('shortname') or section.name, self.names))}", f"ip = {network_texts(networks)}",
                 f"secret = {toml(secret)}", *(["require_seal = true"] if seal else []), *(["limit_proxy_state = true"] if limit and not seal else []),
                 *coa, "")
 
@@ -252,7 +288,7 @@ class Conversion:
         return ([name.lower()], []) if NAME.match(name) else (None, [])
 
     def members(self, section, key):
-        """The home servers of a realm's pool, in order."""
+        """Returns the home servers of a realm's pool, in order."""
         name = section.get(key) or section.get("pool")
         pool = self.pools.get(name or "")
         return [self.homes[it] for it in pool.all("home_server") if it in self.homes] if pool else []
@@ -279,7 +315,7 @@ class Conversion:
         return endpoint_of(stated_address(home), int(home.get("port") or port), self.options)
 
     def fallen(self, items, own=()):
-        """What becomes of names whose own realm isn't there."""
+        """Returns what becomes of names whose own realm isn't there."""
         after = [it for it in self.forwarded if it not in own and any(covers(it, one) for one in items)]
         return f". The realm of {after[0]} takes its names" if after else ""
 
@@ -326,9 +362,10 @@ class Conversion:
         whole = [it for it in items if not it.startswith("*")]
         name = whole[0] if whole else "default.invalid" if "*" in items else f"under.{items[0][2:]}.invalid"
         also, pool = [it for it in items if it != name], self.pools[section.get("auth_pool") or section.get("pool")]
-        if (pool.get("type") or "fail-over").lower() != "fail-over":
-            out.change(f"realm {section.name}: its pool is of type {pool.get('type')}; roam asks its servers in order, and the next one where one is silent"
-                       + ("; a login stays at the server that it began at (conversations)" if len(homes) > 1 else ""))
+        balances = (pool.get("type") or "fail-over").lower() != "fail-over" and len(homes) > 1
+        if balances:
+            out.change(f"realm {section.name}: its pool is of type {pool.get('type')}; here a hash of the station, or of the user, says with which server"
+                       " a request begins (balance), and a login stays at the server that it began at (conversations)")
         self.lose_settings(pool, ())
         if not any(key == "nostrip" for key, _ in section.settings):
             out.change(f"realm {section.name}: FreeRADIUS strips the realm of its names; roam never does")
@@ -353,10 +390,8 @@ class Conversion:
             out.put('accounting = "answer"')
         self.write_numbers(homes[0], "*" in items)
         # EAP needs all rounds at one server, and nobody's session may be ended but the realm's own.
-        out.put(*(["conversations = true"] if len(homes) > 1 else []), *(["own_sessions = true"] if partners and (coa or self.options.reverse) else []))
-        taken = set()
-        for home in homes:
-            self.write_server(section, home, partners, taken)
+        out.put(*(['balance = "user"'] if balances else []), *(["conversations = true"] if len(homes) > 1 else []), *(["own_sessions = true"] if partners and (coa or self.options.reverse) else []))
+        self.write_servers(section, homes, partners)
 
     def free_port(self, address, port):
         while (address, port) in self.used:
@@ -374,34 +409,47 @@ class Conversion:
                    "rest_after": (min(max(after, 1), 256), 3), "hold": (min(hold, 60) * 1000, 10000), "max_pending": (self.options.max_pending, None)}
         self.out.put("# Three sendings in response_window.", *(f"{key} = {number}" for key, (number, usual) in numbers.items() if number != usual))
 
-    def write_server(self, section, home, partners, taken):
-        out, auth = self.out, self.endpoint(home, 1812)
+    def write_servers(self, section, homes, partners):
+        """The servers of both pools: each home server with its accounting, and behind them those for accounting alone."""
+        taken, alone = {self.endpoint(it, 1812) for it in homes}, list(partners)
+        for home in homes:
+            same = [it for it in alone if secret_of(it) == secret_of(home) and self.endpoint(it, 1813)[0] == self.endpoint(home, 1812)[0]]
+            partner = home if home in alone else (same or [None])[0]
+            if partner:
+                alone.remove(partner)
+            self.write_server(section, home, partner, taken)
+        for number, partner in enumerate(alone):
+            if len(homes) + number < SERVERS:
+                self.write_server(section, None, partner, taken)
+            else:
+                self.out.lose(f"realm {section.name}: home_server {partner.name}: roam takes {SERVERS}")
+
+    def accounting_at(self, partner, taken):
+        """Returns where a home server takes accounting, if no other one of the realm has that endpoint."""
+        place = self.endpoint(partner, 1812) if (partner.get("type") or "").lower() == "auth+acct" else None
+        place = (place[0], place[1] + 1) if place else self.endpoint(partner, 1813)
+        if place in taken:
+            self.out.lose(f"home_server {partner.name}: {written(place)} is an endpoint of this realm already; roam wants another for accounting")
+            return None
+        taken.add(place)
+        return place
+
+    def write_server(self, section, home, partner, taken):
+        out, named = self.out, home or partner
         out.put("")
-        self.lose_settings(home, ("proto",))
-        if (home.get("status_check") or "none").lower() != "none":
-            out.change(f"home_server {home.name}: no Status-Server and no test user is sent; `rest` of the realm is in its place")
-        if auth in taken:
-            out.lose(f"home_server {home.name}: {written(auth)} is a server of this realm already")
+        auth, acct = self.endpoint(home, 1812) if home else None, self.accounting_at(partner, taken) if partner else None
+        ends = {key: place for key, place in (("auth", auth), ("acct", acct)) if place}
+        self.lose_settings(named, ("proto",))
+        if (named.get("status_check") or "none").lower() != "none":
+            out.change(f"home_server {named.name}: no Status-Server and no test user is sent; `rest` of the realm is in its place")
+        if not ends:
             return
-        acct = None
-        if partners:
-            same = [it for it in partners if secret_of(it) == secret_of(home) and self.endpoint(it, 1813)[0] == auth[0]]
-            partner = home if home in partners else (same or [None])[0]
-            is_both = partner is not None and (partner.get("type") or "").lower() == "auth+acct"
-            acct = (auth[0], auth[1] + 1) if is_both or partner is None else self.endpoint(partner, 1813)
-            if partner is None:
-                out.change(f"home_server {home.name} had no accounting of its own; roam wants an endpoint for it")
-            if acct in taken or acct == auth:
-                acct = self.free_port(*acct)
-                out.change("roam wants an endpoint for each purpose")
-        taken |= {auth, acct}
-        if is_tls(home):
-            out.change(f"home_server {home.name}: haproxy opens its TLS, for what is sent to this address (docs/TLS.md)")
-        for it in (auth, acct):
+        if is_tls(named):
+            out.change(f"home_server {named.name}: haproxy opens its TLS, for what is sent to this address (docs/TLS.md)")
+        for it in ends.values():
             self.front.use(it, self.reverse and self.reverse[0])
-        out.put("[[realm.server]]", f"auth = {written(auth)}", *([f"acct = {written(acct)}"] if acct else []),
-                f"secret = {toml(secret_of(home)[0])}",
-                *(["require_seal = true"] if home.says("require_message_authenticator") else []))
+        out.put("[[realm.server]]", *(f"{key} = {written(it)}" for key, it in ends.items()), f"secret = {toml(secret_of(named)[0])}",
+                *(["require_seal = true"] if named.says("require_message_authenticator") else []))
 
 
 def main():
@@ -411,7 +459,7 @@ def main():
         conversion.run()
     except (Unreadable, ValueError) as error:
         sys.exit(f"from-freeradius.py: {error}")
-    closed("from-freeradius.py", conversion.out, len(conversion.addresses), conversion.realms, conversion)
+    closed("from-freeradius.py", conversion.out, conversion.peers, conversion.realms, conversion)
 
 
 if __name__ == "__main__":

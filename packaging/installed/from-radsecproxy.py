@@ -10,8 +10,8 @@ import ipaddress
 import re
 import sys
 
-from converted_conf import (ALSO, HOPS, NAME, PLACES, REJECTS, REST_AFTER_OF_ALL, SERVERS, TABLES, Written, closed, endpoint_of, fault_of, kind_of,
-                            network_of, network_text, options_of, parts_of, peer_name, toml)
+from converted_conf import (ALSO, HOPS, NAME, PLACES, PREFIXES, REJECTS, REST_AFTER_OF_ALL, SERVERS, TABLES, Written, by_so_many, closed, endpoint_of,
+                            fault_of, is_in_one, kind_of, network_of, network_text, network_texts, options_of, parts_of, peer_name, toml)
 from converted_conf import endpoint_text as written, endpoint_texts as written_all
 from converted_tls import FOLDER, LOOPBACK, Front, literal
 from radsecproxy_conf import Block, Unreadable, blocks_of
@@ -75,7 +75,7 @@ OF_TLS = {"tls", "certificatenamecheck", "matchcertificateattribute", "tcpkeepal
 
 
 def subjects_of(block):
-    """The names of its certificate, where the block says them."""
+    """Returns the names of its certificate, where the block says them."""
     matched = [literal(it.rpartition(":")[2]) for it in block.all("matchcertificateattribute")]
     if matched:
         return [it for it in matched if it]
@@ -90,7 +90,7 @@ class Conversion:
         self.of_kind = lambda kind: [block for block in blocks if block.kind == kind]
         self.servers = {block.name.lower(): block for block in self.of_kind("server")}
         self.rewrites = {block.name: block for block in self.of_kind("rewrite")}
-        self.used, self.addresses, self.names = set(), {}, set()
+        self.used, self.addresses, self.names, self.peers = set(), {}, set(), 0
         self.lost_parts, self.lost_tables, self.rejects, self.reject_at = [], [], [], 0
         self.realms, self.taken, self.forwarding, self.front = 0, [], [], Front()
 
@@ -174,7 +174,7 @@ class Conversion:
     # What is rewritten
 
     def rewrite_named(self, block, option):
-        """The rewrite block that counts for requests or replies of a client or server, if one does."""
+        """Returns the rewrite block that counts for requests or replies of a client or server, if one does."""
         name = block.get(option) or (block.get("rewrite") if option == "rewritein" else None)
         if name is not None:
             return self.rewrites.get(name)
@@ -182,7 +182,7 @@ class Conversion:
         return next((self.rewrites[it] for it in defaults if it in self.rewrites), None)
 
     def rewriting(self, block, way):
-        """What is rewritten of its requests or replies: none where no block says so."""
+        """Returns what is rewritten of its requests or replies: none where no block says so."""
         is_client = block.kind == "client"
         named = self.rewrite_named(block, "rewritein" if (way == "request") == is_client else "rewriteout")
         return named and rewriting_of(named, way, is_client)
@@ -245,7 +245,8 @@ class Conversion:
             out.lose(f"client {block.name}: {fault}")
             self.lost_tables.append(f"client {block.name}")
             return
-        if not any([self.write_peers(block, host, secret) for host in hosts]):
+        networks, is_known = self.networks_of(block, hosts)
+        if not any([self.write_peer_at(block, some, secret) for some in by_so_many(networks, PREFIXES)]) and not is_known:
             self.lost_tables.append(f"client {block.name}")
 
     def write_tls_client(self, block, secret):
@@ -255,7 +256,7 @@ class Conversion:
         if known:
             out.change(f"client {block.name}: its certificate is peer {known}'s, before it: one peer, from whichever address it comes")
             return
-        if len(self.addresses) == TABLES:
+        if self.peers == TABLES:
             out.lose(f"client {block.name}: roam takes {TABLES} peers")
             self.lost_tables.append(f"client {block.name}")
             return
@@ -265,7 +266,7 @@ class Conversion:
             out.change(f"client {block.name}: names.map has {', '.join(subjects)} as the common name of its certificate: see that it is so")
         elif not subjects:
             out.change(f"client {block.name}: write the common name of its certificate into names.map")
-        self.write_peer(block, network_of(address), secret)
+        self.write_peer(block, [network_of(address)], secret)
 
     def tell_certificates(self):
         """Where haproxy has the certificates of the blocks of TLS."""
@@ -276,34 +277,39 @@ class Conversion:
                             f" and {FOLDER}/ca.pem, which is {files[2]}")
             self.front.checks_revoked |= block.is_on("crlcheck")
 
-    def write_peers(self, block, host, secret):
-        """Whether what it names is a peer, by this block or by one before it."""
-        out, network = self.out, self.network(block, host)
-        if network is None:
+    def networks_of(self, block, hosts):
+        """Returns the prefixes of a client that no client before it has, and whether one before it has any."""
+        networks, is_known = [], False
+        for network in (it for host in hosts for it in [self.network(block, host)] if it):
+            text, before = network_text(network), self.first_around(network)
+            if before is not None:
+                at = "is a client before it" if before == network else f"is in {before} of a client before it"
+                self.out.lose(f"client {block.name}: {text} {at}, which radsecproxy takes first")
+                is_known = True
+            elif not is_in_one(network, networks):
+                networks.append(network)
+        return networks, is_known
+
+    def write_peer_at(self, block, networks, secret):
+        """Says whether there is a table left for a client at these prefixes, which it then has."""
+        if self.peers == TABLES:
+            texts = ", ".join(network_text(it) for it in networks)
+            self.out.lose(f"client {block.name}: {texts}: roam takes {TABLES} peers")
             return False
-        text, before = network_text(network), self.first_around(network)
-        if before is not None and before == network:
-            out.lose(f"client {block.name}: {text} is a client before it, which radsecproxy takes first")
-        elif before is not None:
-            out.lose(f"client {block.name}: {text} is in {before} of a client before it, which radsecproxy takes first")
-        elif len(self.addresses) == TABLES:
-            out.lose(f"client {block.name}: {text}: roam takes {TABLES} peers")
-            return False
-        else:
-            self.write_peer(block, network, secret)
+        self.write_peer(block, networks, secret)
         return True
 
     def first_around(self, network):
-        """The first prefix of a client that the network lies in."""
+        """Returns the first prefix of a client that the network lies in."""
         return next((it for it in self.addresses if it.version == network.version and network.subnet_of(it)), None)
 
     def client_at(self, address):
-        """The client of the longest prefix that the address lies in."""
+        """Returns the client of the longest prefix that the address lies in."""
         around = [it for it in self.addresses if ipaddress.ip_address(address) in it]
         return self.addresses[max(around, key=lambda it: it.prefixlen)] if around else None
 
     def network(self, block, host):
-        """The address or prefix of a client, if requests from there can come to `auth`."""
+        """Returns the address or prefix of a client, if requests from there can come to `auth`."""
         found = None if "/" in host else endpoint_of(host, 1, self.options)
         network = network_of(found[0] if found else re.sub(r"[][]", "", host))
         if network is None:
@@ -318,13 +324,14 @@ class Conversion:
         """Why a name isn't an address, where it was looked up too."""
         return "a name that has no address now" if self.options.resolve else why
 
-    def write_peer(self, block, network, secret):
+    def write_peer(self, block, networks, secret):
         out = self.out
         chosen = peer_name(block.name, self.names)
         if block.name not in self.addresses.values():
             self.tell_client(block)
-        self.addresses[network] = block.name
-        out.put("[[peer]]", f"name = {toml(chosen)}", f'ip = "{network_text(network)}"', f"secret = {toml(secret)}")
+        self.addresses |= dict.fromkeys(networks, block.name)
+        self.peers += 1
+        out.put("[[peer]]", f"name = {toml(chosen)}", f"ip = {network_texts(networks)}", f"secret = {toml(secret)}")
         if block.is_on("requiremessageauthenticator"):
             out.put("require_seal = true")
         elif block.is_on("requiremessageauthenticatorproxy"):
@@ -417,7 +424,7 @@ class Conversion:
             self.lost_tables.append(f"realm {block.name}")
 
     def fallen(self, items):
-        """What becomes of names whose own realm isn't there."""
+        """Returns what becomes of names whose own realm isn't there."""
         after = [item for item in self.forwarding if any(covers(item, one) for one in items)]
         return f". The realm of {after[0]} takes its names" if after else ""
 
@@ -445,7 +452,7 @@ class Conversion:
             out.put("# `name` is required, and this realm has patterns alone: this name is nobody's.")
         retries, interval = (first.get("retrycount", "2"), first.get("retryinterval", "5"))
         if any((one.get("retrycount", "2"), one.get("retryinterval", "5")) != (retries, interval)
-               for one, _ in pairs):
+               for one, _ in pairs if one):
             out.change("its servers differ in retrycount or retryinterval: the first one's count for all")
         out.put("[[realm]]", f"name = {toml(name[:253])}")
         if also:
@@ -464,10 +471,9 @@ class Conversion:
         self.write_realm_lists(block, pairs)
         self.write_numbers(int(retries) + 1, int(interval), "*" in items)
         # EAP needs all rounds at one server, and nobody's session may be ended but the realm's own.
-        out.put(*(["conversations = true"] if len(pairs) > 1 else []), *(["own_sessions = true"] if self.options.reverse and is_forwarded else []))
-        taken = set()
+        out.put(*(["conversations = true"] if len([one for one, _ in pairs if one]) > 1 else []), *(["own_sessions = true"] if self.options.reverse and is_forwarded else []))
         for server, partner in pairs:
-            self.write_server(server, partner, is_forwarded, taken)
+            self.write_server(server, partner)
 
     def write_numbers(self, tries, wait, is_of_all):
         """The numbers of a realm that aren't what counts where they are absent."""
@@ -517,7 +523,7 @@ class Conversion:
     # Servers
 
     def server(self, name):
-        """The block, and why it can't be a server of roam, or None."""
+        """Returns the block, and why it can't be a server of roam, or None."""
         block = self.servers.get(name.lower())
         if block is None:
             return Block("server", name), "there is no such server"
@@ -538,13 +544,13 @@ class Conversion:
         return endpoint_of(host, int(block.get("port", "1812")), self.options)
 
     def looping(self, block):
-        """The address of the client of a server's name, which the server has too where nothing is to go back to it."""
+        """Returns the address of the client of a server's name, which the server has too where nothing is to go back to it."""
         on = block.is_on("loopprevention") if block.get("loopprevention") else self.top.is_on("loopprevention")
         return next((str(it.network_address) for it, name in self.addresses.items() if on and name == block.name and str(it).startswith("127.1.")), None)
 
     def pairs(self, block):
-        """Each server of the realm, with the one for its accounting, if there is one."""
-        accounting = []
+        """Returns the servers of the realm: each with the one for its accounting, if there is one, and behind them those for accounting alone."""
+        accounting, taken = [], set()
         for name in block.all("accountingserver"):
             server, fault = self.server(name)
             if fault:
@@ -556,17 +562,16 @@ class Conversion:
             server, fault = self.server(name)
             if fault is None and len(pairs) == SERVERS:
                 fault = f"roam takes {SERVERS}"
+            elif fault is None and self.endpoint(server) in taken:
+                fault = f"{written(self.endpoint(server))} is a server of this realm already"
             if fault:
                 self.out.lose(f"realm {block.name}: server {name}: {fault}")
                 lost.append(f"server {name} of realm {block.name}")
                 continue
-            partner = self.partner(server, accounting)
-            if partner:
-                accounting.remove(partner)
-            pairs.append((server, partner))
-        for server in accounting:
-            self.out.lose(f"realm {block.name}: accountingserver {server.name}: no server of this realm has its"
-                          " secret, or each has one already")
+            taken.add(self.endpoint(server))
+            pairs.append((server, None))
+        places = [self.accounting_endpoint(it) for it in accounting]
+        pairs = self.with_accounting(block, pairs, [it for it, place in zip(accounting, places) if self.is_free(block, it, place, taken)])
         if pairs and block.all("accountingserver") and not any(partner for _, partner in pairs):
             self.out.change(f"realm {block.name}: its accounting goes to no server here")
             lost.append(f"the accounting of realm {block.name}")
@@ -574,48 +579,59 @@ class Conversion:
         self.lost_parts += lost if pairs else []
         return pairs
 
+    def is_free(self, block, server, place, taken):
+        """Says whether an endpoint for accounting is no other one's of the realm: it is from then on."""
+        if place in taken:
+            self.out.lose(f"realm {block.name}: accountingserver {server.name}: {written(place)} is an endpoint of this realm already;"
+                          " roam wants another for accounting")
+            return False
+        taken.add(place)
+        return True
+
+    def with_accounting(self, block, pairs, accounting):
+        """Returns the same servers with those for accounting: each beside its partner, or behind all of them."""
+        paired = []
+        for server, _ in pairs:
+            partner = self.partner(server, accounting)
+            if partner:
+                accounting.remove(partner)
+            paired.append((server, partner))
+        for server in accounting[SERVERS - len(pairs):] if pairs else []:
+            self.out.lose(f"realm {block.name}: accountingserver {server.name}: roam takes {SERVERS}")
+        return paired + [(None, server) for server in accounting[:SERVERS - len(pairs)]] if pairs else []
+
+    def accounting_endpoint(self, server):
+        """Returns where a server takes accounting: one whose TLS haproxy opens at the usual port."""
+        place = self.endpoint(server)
+        return (place[0], 1813) if self.front.has(place[0]) else place
+
     def partner(self, server, accounting):
-        """The first of the same address and secret, or else of the same secret."""
+        """Returns the first of the same address and secret, or else of the same secret."""
         same = [one for one in accounting if secret_of(one) == secret_of(server)]
         near = [one for one in same if self.endpoint(one)[0] == self.endpoint(server)[0]]
         return (near or same or [None])[0]
 
-    def write_server(self, server, partner, is_forwarded, taken):
-        out, auth = self.out, self.endpoint(server)
-        acct = self.endpoint(partner) if partner else None
-        acct = (acct[0], 1813) if acct and self.front.has(acct[0]) else acct
+    def write_server(self, server, partner):
+        out, named = self.out, server or partner
+        auth, acct = self.endpoint(server) if server else None, self.accounting_endpoint(partner) if partner else None
         out.put("")
-        for host in server.all("host")[1:]:
-            out.lose(f"server {server.name}: host {host}: a server has one address")
+        for host in named.all("host")[1:]:
+            out.lose(f"server {named.name}: host {host}: a server has one address")
         known = {"host", "port", "type", "secret", "retrycount", "retryinterval", "source", "statusserver",
                  "requiremessageauthenticator", "loopprevention", *REWRITES}
-        out.lose_options(server, known | (OF_TLS if is_tls(server) else set()))
-        self.tell_missing(server)
-        if self.front.has(auth[0]):
-            out.change(f"server {server.name}: haproxy opens its TLS, for what is sent to this address (docs/TLS.md)")
-        if server.get("source"):
-            out.change(f"server {server.name}: source {server.get('source')}: `out` of the realm is its source")
-        if server.is_on("statusserver"):
-            out.change(f"server {server.name}: no Status-Server is sent; `rest` of the realm is in its place")
-        if auth in taken:
-            out.lose(f"server {server.name}: {written(auth)} is a server of this realm already")
-            return
-        taken.add(auth)
-        if is_forwarded and (acct is None or acct in taken):
-            wanted = acct
-            acct = auth
-            while acct in taken:
-                acct = (acct[0], acct[1] + 1 if acct[1] < 65535 else 1024)
-            if wanted:
-                out.change(f"accounting went to {written(wanted)}; roam wants an endpoint for each purpose")
-            else:
-                out.change(f"server {server.name} had no accounting of its own; roam wants an endpoint for it")
-        taken.add(acct)
-        for it in (auth, acct):
-            self.front.use(it, self.options.reverse and self.reverse[0])
-        out.put("[[realm.server]]", f"auth = {written(auth)}", *([f"acct = {written(acct)}"] if acct else []),
-                f"secret = {toml(secret_of(server)[0])}")
-        if server.is_on("requiremessageauthenticator"):
+        out.lose_options(named, known | (OF_TLS if is_tls(named) else set()))
+        self.tell_missing(named)
+        if self.front.has((auth or acct)[0]):
+            out.change(f"server {named.name}: haproxy opens its TLS, for what is sent to this address (docs/TLS.md)")
+        if named.get("source"):
+            out.change(f"server {named.name}: source {named.get('source')}: `out` of the realm is its source")
+        if named.is_on("statusserver"):
+            out.change(f"server {named.name}: no Status-Server is sent; `rest` of the realm is in its place")
+        ends = {key: place for key, place in (("auth", auth), ("acct", acct)) if place}
+        for place in ends.values():
+            self.front.use(place, self.options.reverse and self.reverse[0])
+        out.put("[[realm.server]]", *(f"{key} = {written(place)}" for key, place in ends.items()), f"secret = {toml(secret_of(named)[0])}")
+        if named.is_on("requiremessageauthenticator"):
             out.put("require_seal = true")
 
     def write_unused_servers(self):
@@ -633,7 +649,7 @@ def main():
         conversion.run()
     except (Unreadable, ValueError) as error:
         sys.exit(f"from-radsecproxy.py: {error}")
-    closed("from-radsecproxy.py", conversion.out, len(conversion.addresses), conversion.realms, conversion)
+    closed("from-radsecproxy.py", conversion.out, conversion.peers, conversion.realms, conversion)
 
 
 if __name__ == "__main__":

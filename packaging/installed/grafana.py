@@ -59,13 +59,13 @@ PANELS = [
      [("max by (realm, server, service) (roam_server_rests{IR})", "{{server}} {{service}}")]),
     ("Identifiers in use, of 256 for each out", "timeseries", "none", 8, 8,
      [("max by (server, service) (roam_server_identifiers_in_use{IR})", "{{server}} {{service}}")]),
-    ("Requests that wait, of what a realm may hold", "timeseries", "percentunit", 8, 8,
+    ("Waiting requests, of max_pending", "timeseries", "percentunit", 8, 8,
      [("max by (realm) (roam_realm_waiting_requests{IR} / roam_realm_max_pending{IR})", "{{realm}}")]),
     ("Open sessions", "timeseries", "none", 8, 8, [("max by (realm) (roam_realm_sessions{IR})", "{{realm}}")]),
     ("Reloads", "timeseries", "none", 8, 8, [("sum by (outcome) (roam_reloads_total{I})", "{{outcome}}")]),
-    ("Dropped of clients, by number", "timeseries", "reqps", 12, 8,
+    ("Dropped from clients, by number (page REFUSALS)", "timeseries", "reqps", 12, 8,
      [("sum by (peer, number) (rate(roam_peer_refusals_total{I}[$__rate_interval]))", "{{peer}}: {{number}}")]),
-    ("Dropped of home servers, by number", "timeseries", "reqps", 12, 8,
+    ("Dropped from home servers, by number (page REFUSALS)", "timeseries", "reqps", 12, 8,
      [("sum by (server, number) (rate(roam_server_refusals_total{IR}[$__rate_interval]))", "{{server}}: {{number}}")]),
 ]
 
@@ -75,7 +75,7 @@ def labelled(expression: str) -> str:
 
 
 def places() -> list[tuple[int, int, int, int]]:
-    """Where each panel stands: from the left to the right, row under row."""
+    """Returns where each panel stands: from the left to the right, row under row."""
     found, x, y, high = [], 0, 0, 0
     for _, _, _, wide, height, _ in PANELS:
         if x + wide > 24:
@@ -156,7 +156,7 @@ def lacking(what: dict, wanted: dict, where: str) -> list[str]:
 
 
 def metrics_known() -> set[str]:
-    """The names of all metrics that the sources have."""
+    """Returns the names of all metrics that the sources have."""
     sources = (ROOT / "crates" / "roam_metrics" / "src").glob("*.rt")
     text = "\n".join(source.read_text(encoding="utf-8") for source in sources)
     names = set(re.findall(r'"((?:roam|process)_[a-z_]+)"', text))
@@ -423,35 +423,48 @@ def draw_stat(x: float, y: float, wide: float, high: float, unit: str, title: st
     return [words(x + wide / 2, y + high / 2 + 14, "  ".join(texts) or "-", 18, "middle", "#1d4f91", "bold")]
 
 
-def legend(x: float, y: float, wide: float, series: list[dict]) -> list[str]:
-    drawn, at, row = [], x, 0
-    for number, one in enumerate(series):
-        room = 22 + 6.1 * len(one["name"])
+def legend(x: float, bottom: float, wide: float, series: list[dict]) -> tuple[list[str], float]:
+    """Draws the names of the series, the last row at the bottom, and returns the height of all rows too. Many names are small."""
+    size, letter = (9, 6.1) if len(series) < 5 else (8, 4.9)
+    places, at, row = [], x, 0
+    for one in series:
+        room = 18 + letter * len(one["name"])
         if at + room > x + wide and at > x:
             at, row = x, row + 1
-        if row > 1:
-            break
-        drawn += [f'<rect x="{at:g}" y="{y + 13 * row - 7:g}" width="10" height="4" fill="{COLOURS[number % 8]}"/>',
-                  words(at + 14, y + 13 * row, one["name"], 9, colour="#444")]
+        places.append((at, row))
         at += room
-    return drawn
+    drawn = []
+    for number, (one, (at, row_of)) in enumerate(zip(series, places)):
+        level = bottom - 13 * (row - row_of)
+        drawn += [f'<rect x="{at:g}" y="{level - 7:g}" width="10" height="4" fill="{COLOURS[number % 8]}"/>',
+                  words(at + 13, level, one["name"], size, colour="#444")]
+    return drawn, 13 * (row + 1)
+
+
+def scale(most: float) -> tuple[float, int]:
+    """Returns a round step between two lines of a scale, and how many steps reach the greatest value: three to six."""
+    power = 10 ** math.floor(math.log10(most / 4))
+    step = next(it * power for it in (1, 2, 2.5, 5, 10) if it * power >= most / 5)
+    return step, math.ceil(most / step - 1e-9)
 
 
 def draw_lines(x: float, y: float, wide: float, high: float, unit: str, series: list[dict]) -> list[str]:
-    left, top, right, bottom = x + 52, y + 30, x + wide - 12, y + high - 46
-    most = max([point[1] for one in series for point in one["points"]] or [0]) or 1
-    drawn = []
-    for part in range(5):
-        level = bottom - (bottom - top) * part / 4
+    left, top, right = x + 52, y + 30, x + wide - 20
+    drawn, rows = legend(left, y + high - 6, right - left, series)
+    bottom = y + high - 24 - rows
+    step, parts = scale(max([point[1] for one in series for point in one["points"]] or [0]) or 1)
+    most = step * parts
+    for part in range(parts + 1):
+        level = bottom - (bottom - top) * part / parts
         drawn += [f'<line x1="{left:g}" y1="{level:g}" x2="{right:g}" y2="{level:g}" stroke="#e3e6ea"/>',
-                  words(left - 5, level + 3, shown(most * part / 4, unit), 9, "end", "#666")]
+                  words(left - 5, level + 3, shown(step * part, unit), 9, "end", "#666")]
     for moment in range(0, SECONDS + 1, 30):
         drawn.append(words(left + (right - left) * moment / SECONDS, bottom + 13, f"{moment} s", 9, "middle", "#666"))
     for number, one in enumerate(series):
         points = " ".join(f"{left + (right - left) * moment / SECONDS:.1f},{bottom - (bottom - top) * value / most:.1f}"
                           for moment, value in one["points"])
         drawn.append(f'<polyline points="{points}" fill="none" stroke="{COLOURS[number % 8]}" stroke-width="1.6"/>')
-    return drawn + legend(left, bottom + 28, right - left, series)
+    return drawn
 
 
 def draw_states(x: float, y: float, wide: float, high: float, series: list[dict]) -> list[str]:

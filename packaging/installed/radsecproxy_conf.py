@@ -24,7 +24,7 @@ class Block:
 
 
 def lines_of(path):
-    """Each line's words, with the place of it; included files stand where they are named."""
+    """Returns each line's words, with the place of it; included files stand where they are named."""
     try:
         with open(path, encoding="utf-8", errors="surrogateescape") as file:
             lines = file.read().splitlines()
@@ -45,7 +45,7 @@ def lines_of(path):
 
 
 def blocks_of(path):
-    """The options outside of all blocks as one block, and the blocks in their order."""
+    """Returns the options outside of all blocks as one block, and the blocks in their order."""
     top, blocks, inside = Block("top", ""), [], None
     for place, words in lines_of(path):
         if words == ["}"] and inside:

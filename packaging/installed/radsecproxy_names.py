@@ -50,7 +50,7 @@ class Expression:
         return ways
 
     def repeated(self, ways):
-        """What stands there with the sign behind it, if there is one."""
+        """Returns what stands there with the sign behind it, if there is one."""
         sign = self.next() if self.sees("?*+{") else None
         if ways in ([[DOT]], [[LETTER]], [[ONE]]):
             return self.repeated_letter(ways[0][0], sign)
@@ -108,7 +108,7 @@ class Expression:
 
 
 def items_of(text):
-    """What a realm's expression matches, as names and patterns of roam, and what was changed by that."""
+    """Returns what a realm's expression matches, as names and patterns of roam, and what was changed by that."""
     body = text[1:-1] if len(text) > 1 and text.endswith("/") else text[1:]
     expression = Expression(body)
     items = []
@@ -161,7 +161,7 @@ def items_of_way(way, notes):
 
 
 def covers(pattern, item):
-    """Whether each name that the item takes is one that the pattern takes."""
+    """Says whether each name that the item takes is one that the pattern takes."""
     if pattern.startswith("*."):
         return item == pattern or item.removeprefix("*").endswith(pattern[1:])
     return pattern in ("*", item)

@@ -31,7 +31,7 @@ class Rewriting:
 
 
 def taken_out(option, value):
-    """An attribute as the lists of roam write it, and its type; None where radsecproxy doesn't take it either."""
+    """Returns an attribute as the lists of roam write it, and its type; None where radsecproxy doesn't take it either."""
     found = re.fullmatch(r"(\d+)(?::(\d+))?", value)
     if not found:
         return None, 0
@@ -44,7 +44,7 @@ def taken_out(option, value):
 
 
 def rewriting_of(block, way, is_client):
-    """What a block does with requests or replies, of a client or of a server."""
+    """Returns what a block does with requests or replies, of a client or of a server."""
     done = Rewriting()
     if block.is_on("whitelistmode"):
         done.lost.append("whitelistmode on: roam's lists have what doesn't pass, not what does")
@@ -64,7 +64,7 @@ def rewriting_of(block, way, is_client):
         number, _, text = value.partition(":")
         if option in ADDING and is_client and way == "request":
             only_where_absent = option == "supplementattribute" or number in removed
-            why = f"{option} {value}: what is added is an Operator-Name of a realm ('1 and its name) and an empty Chargeable-User-Identity (%00)"
+            why = f"{option} {value}: what is added is an Operator-Name ('1 and a realm, or another digit and its name) and an empty Chargeable-User-Identity (%00)"
             if not only_where_absent:
                 done.lost.append(f"{option} {value}: roam adds one only where none stands there (supplementAttribute)")
             else:

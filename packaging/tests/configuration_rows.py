@@ -3,6 +3,9 @@
 What is expected is that of the format's description: its sample configuration, its table of changes, and its ranges.
 """
 
+# As many addresses as a peer may have.
+EIGHT = '["' + '", "'.join(f"10.0.0.{n}" for n in range(8)) + '"]'
+
 # The keys of the broker.
 TOP = """\
 shards = 1
@@ -119,6 +122,20 @@ auth = "198.51.100.1:1812"
 secret = "h1"
 """
 
+# One that takes accounting alone, and one that takes nothing.
+NO_AUTH = """\
+
+[[realm.server]]
+acct = "198.51.100.2:1813"
+secret = "h2"
+"""
+
+NEITHER = """\
+
+[[realm.server]]
+secret = "h2"
+"""
+
 # Sources of reverse requests.
 CLIENT = """\
 
@@ -211,6 +228,14 @@ OF_THE_SAMPLE = [
     # Addresses of both kinds, and prefixes.
     ('"192.0.2.1"', None, '"192.0.2.0/24"', '"192.0.2.1/32"', '"2001:db8::/48"', '"2001:DB8:0:0:0:0:192.0.2.1"'),
     ('"192.0.2.1"', "BadValue", '"192.0.2.1/24"', '"192.0.2.0/33"', '"::ffff:192.0.2.1"', '"[2001:db8::1]"'),
+    # A peer at several addresses, of which no two are equal, also in another form.
+    ('ip = "192.0.2.1"', None, 'ip = ["192.0.2.1"]', f"ip = {EIGHT}", 'ip = ["10.0.0.0/8", "10.0.0.0/9", "10.0.0.0", "0.0.0.0/0", "::/0", "::"]'),
+    ('ip = "192.0.2.1"', "BadValue", "ip = []", f'ip = {EIGHT[:-1]}, "10.0.0.8"]', 'ip = [["192.0.2.1"]]', 'ip = ["192.0.2.1", 1]',
+     'ip = ["192.0.2.1", "10.0.0.1/8"]', 'ip = ["192.0.2.1", "::ffff:192.0.2.1"]', 'ip = ["192.0.2.1:5000"]', 'ip = "192.0.2.1, 192.0.2.2"',
+     'ip = ["10.0.0.0/8", "10.0.0.0/8", ""]'),
+    ('ip = "192.0.2.1"', "DuplicatePeer", 'ip = ["192.0.2.1", "192.0.2.1"]', 'ip = ["192.0.2.1/32", "10.0.0.0/8", "192.0.2.1"]',
+     'ip = ["2001:db8::/32", "2001:DB8:0::/32"]'),
+    ('nas_ip = "192.0.2.1"', "BadValue", 'nas_ip = ["192.0.2.1"]'),
     ('nas_ip = "192.0.2.1"', None, 'nas_ipv6 = "2001:db8::1"'),
     ('nas_ip = "192.0.2.1"', "BadValue", 'nas_ipv6 = "192.0.2.1"', 'nas_ip = "2001:db8::1"'),
     ('coa = "192.0.2.1:3799"', None, 'coa = "[2001:db8::1]:3799"'),
@@ -317,7 +342,13 @@ OF_THE_SAMPLE = [
      'operator_name = "x"\noperator_namespace = 4\nnas_id', 'operator_name = "x"\noperator_namespace = " "\nnas_id',
      "own_names = true\nnas_id", 'nas_ids = [""]\nnas_id', "nas_ids = [1]\nnas_id", 'nas_ids = "a"\nnas_id'),
     ("tries = 2", None, "loop_prevention = true", 'accounting = "forward"', "share = 1", "share = 4096", "peer_share = 1",
-     "peer_share = 4096", "own_names = false", "conversations = true", "own_sessions = true", "coa_client = []"),
+     "peer_share = 4096", "own_names = false", "conversations = true", "own_sessions = true", "coa_client = []", 'balance = "user"',
+     'balance = "order"'),
+    ("tries = 2", "BadValue", 'balance = "User"', 'balance = ""', "balance = true", 'balance = ["user"]', "balance = 1", 'balance = "station"',
+     'balance = "user "'),
+    ("shards = 1", "BadValue", 'balance = "user"'),
+    ("nas_id", "BadValue", 'balance = "user"\nnas_id'),
+    ('secret = "h1"', "BadValue", 'balance = "user"\nsecret = "h1"'),
     ("nas_id", "DuplicatePeer", 'nas_ids = ["nas1"]\nnas_id', 'nas_ids = ["a*", "a*"]\nnas_id'),
 ]
 
@@ -340,6 +371,8 @@ DOCUMENTS = [
     ([TOP, PEER], AS_IT_IS, AS_IT_IS, "Missing"),
     ([TOP, PEER, REALM, SERVER, REALM, SERVER], "a.example", "A.EXAMPLE", "DuplicateRealm"),
     ([TOP, PEER, SECOND_PEER, REALM, SERVER], "192.0.2.2", "192.0.2.1", "DuplicatePeer"),
+    ([TOP, PEER, SECOND_PEER, REALM, SERVER], '"192.0.2.2"', '["10.0.0.0/8", "192.0.2.1"]', "DuplicatePeer"),
+    ([TOP, PEER, SECOND_PEER, REALM, SERVER], '"192.0.2.2"', '["192.0.2.0/24", "192.0.2.0/31"]', None),
     ([TOP, PEER, SECOND_PEER, REALM, SERVER], "nas2", "nas1", "DuplicatePeer"),
     ([TOP, PEER, SECOND_PEER, THIRD_PEER, REALM, SERVER], "nas2", "NAS1", None),
     ([TOP, PEER, SECOND_PEER, REALM, SERVER], 'secret = "s"\n', 'secret = "s"\nnas_ip = "192.0.2.1"\n', "DuplicatePeer"),
@@ -363,6 +396,30 @@ DOCUMENTS = [
     ([TOP, PEER, REALM, 'accounting = "drop"\n', NO_ACCT], AS_IT_IS, AS_IT_IS, None),
     ([TOP, PEER, REALM, 'accounting = "answer"\n', SERVER], AS_IT_IS, AS_IT_IS, None),
     ([TOP, PEER, REALM, "accounting = 1\n", NO_ACCT], AS_IT_IS, AS_IT_IS, "BadValue"),
+    # Servers of one service, and services that no server of a realm has.
+    ([TOP, PEER, REALM, NO_ACCT, NO_AUTH], AS_IT_IS, AS_IT_IS, None),
+    ([TOP, PEER, REALM, SERVER, NEITHER], AS_IT_IS, AS_IT_IS, "Missing"),
+    ([TOP, PEER, REALM, 'accounting = "answer"\n', SERVER, NEITHER], AS_IT_IS, AS_IT_IS, "Missing"),
+    ([TOP, PEER, REALM, NO_AUTH], AS_IT_IS, AS_IT_IS, "Missing"),
+    ([TOP, PEER, REALM, NO_AUTH, NO_AUTH.replace("100.2", "100.3")], AS_IT_IS, AS_IT_IS, "Missing"),
+    ([TOP, PEER, REALM, 'accounting = "drop"\n', NO_AUTH], AS_IT_IS, AS_IT_IS, "Missing"),
+    ([TOP, PEER, REALM, NO_ACCT, NO_ACCT.replace("100.1", "100.2")], AS_IT_IS, AS_IT_IS, "Missing"),
+    ([TOP, PEER, REALM, 'accounting = "answer"\n', NO_ACCT, NO_ACCT.replace("100.1", "100.2")], AS_IT_IS, AS_IT_IS, None),
+    ([TOP, PEER, REALM, "accounting = 3\n", NO_AUTH], AS_IT_IS, AS_IT_IS, "Missing"),
+    ([TOP, PEER, REALM, SERVER], 'auth = "198.51.100.1:1812"', "auth = 3", "BadValue"),
+    ([TOP, PEER, REALM, "server = [3]\n"], AS_IT_IS, AS_IT_IS, "BadValue"),
+    ([TOP, PEER, REALM, "server = []\n"], AS_IT_IS, AS_IT_IS, "BadValue"),
+    ([TOP, PEER, REALM, "server = {}\n"], AS_IT_IS, AS_IT_IS, "BadValue"),
+    ([TOP, PEER, REALM, 'server = [3, {acct = "198.51.100.1:1813", secret = "s"}]\n'], AS_IT_IS, AS_IT_IS, "Missing"),
+    ([TOP, PEER, REALM, SERVER, SECOND_REALM, NO_AUTH], AS_IT_IS, AS_IT_IS, "Missing"),
+    ([TOP, PEER, REALM, SERVER, SECOND_REALM, NO_ACCT], AS_IT_IS, AS_IT_IS, "Missing"),
+    ([TOP, PEER, REALM, NO_ACCT, NO_AUTH, NO_AUTH.replace("h2", "h3")], AS_IT_IS, AS_IT_IS, "DuplicateServer"),
+    ([TOP, PEER, REALM, NO_ACCT, NO_AUTH, NO_AUTH.replace("100.2:1813", "100.1:1812")], AS_IT_IS, AS_IT_IS, "DuplicateServer"),
+    ([TOP, PEER, REALM, NO_ACCT, NO_AUTH, NO_AUTH.replace("100.2", "100.3"), NO_ACCT.replace("100.1", "100.3")], AS_IT_IS, AS_IT_IS, None),
+    ([TOP, PEER, REALM, NO_ACCT, NO_AUTH], "198.51.100.2:1813", "[2001:db8::2]:1813", "NoWayOut"),
+    ([TOP, PEER, REALM, NO_ACCT, NO_AUTH], "192.0.2.1:3799", "198.51.100.2:1813", "DuplicateLink"),
+    ([TOP, PEER, REALM, NO_ACCT, NO_AUTH], "192.0.2.1:3799", "198.51.100.1:1813", None),
+    ([TOP, PEER, REALM, NO_ACCT, NO_AUTH], 'secret = "h2"\n', "", "Missing"),
     # Names of peers that are not there, or are there twice; that is the last of the faults.
     ([TOP, PEER, SECOND_PEER, REALM, 'peers = ["nas2", "nas1"]\n', SERVER], AS_IT_IS, AS_IT_IS, None),
     ([TOP, PEER, SECOND_PEER, REALM, 'peers = ["nas2", "nas2"]\n', SERVER], AS_IT_IS, AS_IT_IS, None),
@@ -590,13 +647,14 @@ WHOLE = [
     ["max_hops = 7\nstatus_server = true\ntrace_octets = 4096\nspread = true\n", TOP, PEER, REALM,
      'also = ["c.example", "*.d.example", "*"]\nrest = 10000\nrest_after = 3\n', SERVER, "require_seal = true\n"],
     ["max_attributes = 195\nfresh = 300\n", TOP, PEER, 'nas_ids = ["wlc-1", "ap-*"]\n', REALM,
-     "peer_share = 7\nown_names = true\nconversations = true\nown_sessions = true\n", SERVER, CLIENT, OTHER_CLIENT],
+     'peer_share = 7\nown_names = true\nconversations = true\nbalance = "user"\nown_sessions = true\n', SERVER, NO_AUTH, CLIENT, OTHER_CLIENT],
     ['reject = ["*.gone"]\nwell_formed = true\nanswer_unnamed = true\n', TOP, PEER,
      'limit_proxy_state = true\noperator_name = "inst.example"\noperator_namespace = "3"\nask_cui = true\n',
      'request_without = ["26.9.1", "31"]\nreply_without = ["26.311"]\n', REALM,
      'peers = ["nas1"]\nloop_prevention = true\naccounting = "drop"\n',
      'request_without = ["126"]\nreply_without = ["6"]\nshare = 7\n', NO_ACCT],
     [TOP, PEER, SECOND_PEER, "require_seal = true\n", REALM, SERVER, SECOND_SERVER, SECOND_REALM, SERVER],
+    [TOP, PEER.replace('"192.0.2.1"', '["192.0.2.1", "2001:DB8:0::/48", "10.1.0.0/16"]', 1), REALM, SERVER],
 ]
 LEAST = [LEAST_TOP, PLAIN_PEER, LEAST_REALM, SERVER]
 LEAST_WITH_REVERSE = [LEAST_TOP, PLAIN_PEER, LEAST_REALM, 'reverse = "127.0.0.1:3000"\n', SERVER]

@@ -78,7 +78,7 @@ def total(counts, name, *held, **labels):
     return int(sum(value for key, value in counts.items() if key.startswith(name + "{") and all(it in key for it in wanted)))
 
 
-# What became of the requests that a realm forwarded, each by its metric (docs/METRICS.md); one that isn't there counts as 0.
+# What became of the requests that a realm forwarded, each by its metric (docs/FILES.md, "Metrics"); one that isn't there counts as 0.
 FORWARDED, DROPPED = "roam_realm_forwarded_total", "roam_realm_dropped_total"
 ENDS = {"returned": "roam_realm_returned_total", "given up": "roam_realm_given_up_total", "replaced": "roam_realm_replaced_total",
         "dropped": DROPPED, "waiting": "roam_realm_waiting_requests"}

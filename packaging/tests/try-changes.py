@@ -28,6 +28,8 @@ SEEDS, EVENTS, LIMIT, LEAST, TIMES = range(1, 17), 130, 50, 100, 4
 TIMED, MARGIN, EVENTS_IN_TIME = 15, 300, 60
 AUTH, ACCT, OUT, REVERSE, COA, HOME = 39012, 39013, 39020, 39040, 39799, 39112
 NASES, HOMES, WATCH = [f"127.0.12.{n}" for n in (11, 12, 13)], [f"127.0.12.{n}" for n in (21, 22, 23)], "127.0.12.9"
+# What an access server may have beside its own address: prefixes around those of others.
+AROUND = ["127.0.12.8/29", "127.0.12.10/31", "127.0.12.12/30", "127.0.12.16/29"]
 NAMES, SECRETS = ["a.example", "b.example", "c.example"], ["a secret", "another secret", "a third one"]
 LIMITS = {"max_pending": (1, 1, 2, 3, 8), "max_sessions": (1, 2, 20), "peer_share": (None, None, 2, 4), "share": (None, None, 1, 3),
           "own_sessions": (False, True), "reply_without": ([], ["6"], ["25"]), "request_without": ([], ["25"]),
@@ -42,14 +44,22 @@ class File:
 
     def __init__(self, chance, is_timed):
         self.chance, self.limits = chance, {**LIMITS, **(IN_TIME if is_timed else {})}
-        self.peers = [self.a_peer(n) for n in range(3)]
+        self.peers = []
+        for n in range(3):
+            self.peers.append(self.a_peer(n))
         self.realms = [self.a_realm(n) for n in range(3)]
 
     def a_peer(self, number):
         keys = {key: self.chance.choice(values) for key, values in PEER_KEYS.items() if key != "nas_ip" or number == 0}
         keys["operator_name"] = keys["operator_name"] and f"nas{number}.example"
-        return {"name": f"nas{number}", "ip": NASES[number], "secret": self.chance.choice(SECRETS), "coa": f"{NASES[number]}:{COA}",
+        own = NASES[number] if NASES[number] in self.free() else self.chance.choice(self.free())
+        return {"name": f"nas{number}", "ip": [own], "secret": self.chance.choice(SECRETS), "coa": f"{NASES[number]}:{COA}",
                 "nas_id": f"nas{number}", **keys}
+
+    def free(self):
+        """The addresses and prefixes that no access server has."""
+        taken = {it for one in self.peers for it in one["ip"]}
+        return [it for it in (*NASES, *AROUND) if it not in taken]
 
     def a_server(self, number):
         return {"auth": f"{HOMES[number]}:{HOME}", "acct": f"{HOMES[number]}:{HOME + 1}", "secret": self.chance.choice(SECRETS)}
@@ -61,7 +71,7 @@ class File:
                 "hold": 60000, "server": servers, **keys}
 
     def text(self):
-        tables = [peer(**one) for one in self.peers] + [peer("watch", WATCH, SECRETS[0])]
+        tables = [peer(**one | {"ip": one["ip"] if one["ip"][1:] else one["ip"][0]}) for one in self.peers] + [peer("watch", WATCH, SECRETS[0])]
         for one in copy.deepcopy(self.realms):
             tables.append(realm(one.pop("name"), *one.pop("server"), **one))
         return configuration(*tables, shards=1, seed="0" * 64, auth=f"{HERE}:{AUTH}", acct=f"{HERE}:{ACCT}", status_server=True,
@@ -102,10 +112,21 @@ class File:
         if key == "secret":
             one[key] = self.chance.choice(SECRETS)
         elif key == "coa":
-            one[key] = None if one[key] else f"{one['ip']}:{COA}"
+            one[key] = None if one[key] else f"{NASES[int(one['name'][3:])]}:{COA}"
         elif key not in ("nas_ip", "operator_name"):
             one[key] = self.chance.choice(PEER_KEYS[key])
         return f"{one['name']}: {key} = {one.get(key)}"
+
+    def addresses(self):
+        one, free = self.chance.choice(self.peers), self.free()
+        how = self.chance.choice(("add", "add", "go", "turn"))
+        if how == "add" and free:
+            one["ip"].insert(self.chance.randrange(len(one["ip"]) + 1), self.chance.choice(free))
+        elif how == "go" and len(one["ip"]) > 1:
+            one["ip"].pop(self.chance.randrange(len(one["ip"])))
+        else:
+            self.chance.shuffle(one["ip"])
+        return f"{one['name']}: ip = {one['ip']}"
 
     def peers_go(self):
         if len(self.peers) > 1 and self.chance.random() < .5:
@@ -137,8 +158,8 @@ class File:
         return f"{one['name']}: {key} = {one[key]}"
 
     def change(self):
-        makes = self.chance.choices((self.turn, self.limit, self.servers, self.peer_key, self.peers_go, self.realms_go, self.place),
-                                    (2, 6, 4, 4, 2, 2, 2), k=self.chance.choice((1, 1, 1, 2)))
+        makes = self.chance.choices((self.turn, self.limit, self.servers, self.peer_key, self.addresses, self.peers_go, self.realms_go, self.place),
+                                    (2, 6, 4, 4, 5, 2, 2, 2), k=self.chance.choice((1, 1, 1, 2)))
         return "; ".join(make() for make in makes)
 
 
@@ -259,10 +280,17 @@ class Play:
 
     # Events
 
+    def address_of(self, one):
+        """An address from which an access server asks: mostly one that is its own."""
+        config = self.broker.config
+        finds = {ip: config.peer_of(ip) for ip in NASES}
+        own = [ip for ip, found in finds.items() if found is not None and config.peers[found]["name"] == one["name"]]
+        return self.chance.choice(own if own and self.chance.random() < .9 else NASES)
+
     def request(self):
         one = self.chance.choice(self.file.peers)
         user = self.chance.choice((b"u@", b"v@")) + self.chance.choice(NAMES + ["x.example"]).encode()
-        number, source = self.chance.randrange(4), (one["ip"], self.chance.choice((45000, 45001)))
+        number, source = self.chance.randrange(4), (self.address_of(one), self.chance.choice((45000, 45001)))
         more = attribute(25, b"c") if self.chance.random() < .3 else b""
         secret, authenticator = one["secret"].encode(), bytes(self.chance.randrange(256) for _ in range(16))
         if self.chance.random() < .5:
@@ -366,7 +394,7 @@ def held_above(play):
         one.update(require_seal=False, limit_proxy_state=False)
     for one in play.file.realms:
         one.update(max_pending=8, peer_share=None, share=None, accounting="forward", peers=None)
-    nas, secret = play.file.peers[0]["ip"], play.file.peers[0]["secret"].encode()
+    nas, secret = play.file.peers[0]["ip"][0], play.file.peers[0]["secret"].encode()
     requests = [accounting(number, b"u@a.example", b"1", secret) for number in range(4)]
 
     def follow(**keys):

@@ -107,13 +107,15 @@ def documents():
 
 
 def given(text):
-    """What a document states, as it is printed: a seed in small letters, and no list of no tables."""
+    """What a document states, as it is printed: a seed in small letters, no list of no tables, and no balance by order."""
     table = tomllib.loads(text)
     if "seed" in table:
         table["seed"] = table["seed"].lower()
     for realm in table["realm"]:
         if realm.get("coa_client") == []:
             del realm["coa_client"]
+        if realm.get("balance") == "order":
+            del realm["balance"]
     return table
 
 

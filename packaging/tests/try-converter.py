@@ -1,7 +1,7 @@
 #!/usr/bin/env python3
 """try-converter.py [ROAM]
 
-Tries from-radsecproxy.py on a file of eduroam's kind, with 10 clients, 8 servers and 12 realms, on one that rewrites
+Tries from-radsecproxy.py on a file of eduroam's kind, with 12 clients, 8 servers and 12 realms, on one that rewrites
 attributes, and on one of 500 realms. Where radsecproxy is installed, it judges them (`-p`). What is written has to keep
 docs/FILES.md, and to choose for each of many names the realm that radsecproxy chooses. Where a program ROAM is given,
 `roam check` judges it too.
@@ -46,6 +46,7 @@ rewrite no-vlan { removeAttribute 81 }
 
 client wireless-1 { host 192.0.2.1; type udp; secret "a\bc%41 d"; duplicateInterval 10; fticksVISCOUNTRY EX }
 client wireless-2 { host 192.0.2.2; host 192.0.2.3; type udp; secret 'it is "quoted"' }
+client access-points { host 192.0.2.128; host 192.0.2.129; host 192.0.2.130; host 192.0.2.131; host 192.0.2.132; host 192.0.2.133; host 192.0.2.134; host 192.0.2.135; host 192.0.2.136; host 192.0.2.128; host 192.0.2.2; type udp; secret of-nine }
 client wired { host 192.0.2.16/30; type udp; secret prefix-of-four; rewriteIn no-vlan }
 client wired-1 { host 192.0.2.18; type udp; secret one-of-four }
 client dormitories { host 10.20.0.0/16; type udp; secret prefix-of-many }
@@ -86,7 +87,7 @@ realm * { server upper-1; server upper-2; accountingServer upper-1; accountingSe
 TOLD = [("Not carried over", what) for what in (
     "loglevel 3", "logdestination", "fticksreporting Full", "ftickskey:",
     "of-six: [2001:db8::1] is of IPv6, and `auth` of IPv4", "wired-1: 192.0.2.18 is in 192.0.2.16/30", "localhost is a name", "90 octets", "192.0.2.1 is a client before it",
-    "lab.home.example is never reached", "accountingserver books",
+    "lab.home.example is never reached", "accountingserver upper-1: \"198.51.100.1:1812\" is an endpoint of this realm already",
     "spare-six: no TCP",
     "realm seven.example: none of its servers could be carried over. The realm of * takes",
     "realm /^[a-k].*@half\\.example$/: neither", "server spare: no realm")]
@@ -126,11 +127,12 @@ client elsewhere { host 192.0.2.4; type udp; secret of-elsewhere; rewrite toward
 
 server upper { host 198.51.100.1; type udp; secret of-upper; rewriteIn guests }
 server home { host 198.51.100.17; type udp; secret of-home; rewriteOut towards-home }
+server home-acct { host 198.51.100.17; port 1813; type udp; secret of-home; rewriteOut towards-home }
 server home-2 { host 198.51.100.18; type udp; secret of-home; loopPrevention off }
 server elsewhere { host 198.51.100.33; type udp; secret of-elsewhere }
 
 realm shut.a.example { }
-realm /@(.+\.)?a\.example$/ { server home; server home-2; accountingServer home; accountingServer home-2 }
+realm /@(.+\.)?a\.example$/ { server home; server home-2; accountingServer home-acct }
 realm b.example { server elsewhere; accountingResponse on }
 realm c.example { server elsewhere }
 realm /@.+\.3gppnetwork\.org$/ { replyMessage "no telephones"; accountingResponse on }
@@ -235,7 +237,7 @@ EXPRESSIONS = [
 
 
 # What of it is lost as a whole.
-LOST = ["the accounting of realm /\\.home\\.example$/", "client of-six", "client named", "client long", "realm seven.example",
+LOST = ["the accounting of realm *", "client of-six", "client named", "client long", "realm seven.example",
         r"realm /^[a-k].*@half\.example$/"]
 
 
@@ -306,19 +308,22 @@ def keeps_the_rules(conf):
         want(set(peer) <= {"name", "ip", "secret", "require_seal", "limit_proxy_state", "operator_name", "operator_namespace", "ask_cui",
                              "request_without", "reply_without", "coa", "nas_ip", "nas_ipv6"})
         keeps_lists(peer)
-        want(str(ipaddress.ip_network(peer["ip"])).removesuffix("/32").removesuffix("/128") == peer["ip"])
+        want(isinstance(peer["ip"], str) or 2 <= len(peer["ip"]) <= 8)
+        for prefix in all_of(peer, "ip"):
+            want(str(ipaddress.ip_network(prefix)).removesuffix("/32").removesuffix("/128") == prefix)
         want(re.fullmatch(r"[A-Za-z0-9._-]{1,64}", peer["name"]) and 1 <= len(peer["secret"].encode()) <= 64)
     names, endpoints = [], [*all_of(conf, "auth"), *all_of(conf, "acct")]
     for realm in conf["realm"]:
-        want(set(realm) <= {"name", "also", "out", "reverse", "tries", "wait", "rest", "rest_after", "hold", "max_pending", "accounting",
+        want(set(realm) <= {"name", "also", "out", "reverse", "tries", "wait", "rest", "rest_after", "balance", "hold", "max_pending", "accounting",
                               "loop_prevention", "request_without", "reply_without", "conversations", "own_sessions", "server"})
-        want(realm.get("conversations", False) == (len(realm["server"]) > 1))
+        want(realm.get("conversations", False) == (sum("auth" in server for server in realm["server"]) > 1))
         want(realm.get("own_sessions", False) == ("reverse" in realm and "accounting" not in realm))
         keeps_lists(realm)
         names += [realm["name"]] + realm.get("also", [])
         endpoints += [it for key in ("out", "reverse") for it in all_of(realm, key)]
         want(realm.get("accounting") in (None, "answer", "drop"))
-        want(all(("acct" in server) == ("accounting" not in realm) for server in realm["server"]))
+        want(any("acct" in server for server in realm["server"]) == ("accounting" not in realm))
+        want(any("auth" in server for server in realm["server"]))
         servers = [server[key] for server in realm["server"] for key in ("auth", "acct") if key in server]
         want(len(set(servers)) == len(servers) and all(map(is_endpoint, servers)))
         want(set(map(is_of_ipv6, all_of(realm, "out"))) == set(map(is_of_ipv6, servers)))
@@ -329,7 +334,7 @@ def keeps_the_rules(conf):
     names += conf.get("reject", [])
     for name in names:
         want(re.fullmatch(r"(\*\.)?[A-Za-z0-9.-]{1,253}|\*", name), name)
-    for unique in ([name.lower() for name in names], endpoints, [peer["ip"] for peer in conf["peer"]],
+    for unique in ([name.lower() for name in names], endpoints, [it for peer in conf["peer"] for it in all_of(peer, "ip")],
                    [peer["name"] for peer in conf["peer"]]):
         want(len(set(unique)) == len(unique))
     want(all(map(is_endpoint, endpoints)))
@@ -453,7 +458,7 @@ def look_at_front(directory, written, roam, converter, paths, take):
     bound = re.findall(r"^    bind (127\.\S+)$", texts["haproxy.cfg"], re.M)
     want(sorted(asked) == sorted(at) == sorted(bound), f"{asked} {at} {bound}")
     addresses = re.findall(r"^    server (\S+) \S+ source (\S+) maxconn 16 weight 0$", texts["haproxy.cfg"], re.M)
-    want(addresses == [(it["name"], it["ip"]) for it in conf["peer"] if it["ip"].startswith("127.")], f"{addresses}")
+    want(addresses == [(it["name"], it["ip"]) for it in conf["peer"] if all_of(it, "ip")[0].startswith("127.")], f"{addresses}")
     want(all(f" {it} " in texts["haproxy.cfg"] for it in streams.get("take", [])), "haproxy hands on where connections are taken")
     if roam:
         judged = run([roam, "check", "--streams", os.path.join(folder, "streams.conf")])
@@ -550,19 +555,27 @@ def main():
     be_quiet()
     read_expressions()
     network()
-    conf = look_over("eduroam.conf", EDUROAM, 7, 6, TOLD, LOST, roam)
+    conf = look_over("eduroam.conf", EDUROAM, 8, 6, TOLD, LOST, roam)
     want("log_exchanges" not in conf and conf["control"] == "/run/roam/control" and conf["answer_unnamed"])
     want(conf["reject"] == ["myabc.com", "*.myabc.com", "*.3gppnetwork.org", "suspended.example"])
-    want([realm.get("accounting") for realm in conf["realm"]] == [None, "drop", "answer", "drop", "drop", None])
+    want([realm.get("accounting") for realm in conf["realm"]] == [None, None, "answer", "drop", "drop", "drop"])
     want([(peer["name"], peer["ip"]) for peer in conf["peer"] if peer.get("request_without") == ["81"]] == [("wired", "192.0.2.16/30")])
     want([peer["ip"] for peer in conf["peer"] if "/" in peer["ip"]] == ["192.0.2.16/30", "10.20.0.0/16"])
+    # A client of several hosts is one peer; of more than eight, one for each eight.
+    want([(peer["name"], peer["ip"]) for peer in conf["peer"] if peer["ip"].__class__ is list] == [
+        ("wireless-2", ["192.0.2.2", "192.0.2.3"]), ("access-points", [f"192.0.2.{n}" for n in range(128, 136)])])
+    want([peer["ip"] for peer in conf["peer"] if peer["name"] == "access-points-2"] == ["192.0.2.136"])
     want(conf["realm"][3]["out"].startswith("[::1]:") and conf["realm"][3]["server"][0]["auth"] == "[2001:db8::2]:1812")
     want([server["auth"] for server in conf["realm"][4]["server"]] == ["198.51.100.18:11812", "[2001:db8::2]:1812"])
     want([it.rpartition(":")[0] for it in conf["realm"][4]["out"]] == ["203.0.113.10", "[::1]"])
-    want([peer["secret"] for peer in conf["peer"]][:3] == ["a\\bcA d"] + ['it is "quoted"'] * 2)
+    want([peer["secret"] for peer in conf["peer"]][:4] == ["a\\bcA d", 'it is "quoted"', "of-nine", "of-nine"])
     last = conf["realm"][5]
     want(last["also"] == ["*"] and last["tries"] == 2 and last["wait"] == 3000 and last["loop_prevention"] and last["rest_after"] == 50)
-    want([server["acct"] for server in conf["realm"][0]["server"]] == ["198.51.100.17:1813", "198.51.100.18:11813"])
+    want(conf["realm"][0]["server"] == [
+        {"auth": "198.51.100.17:1812", "acct": "198.51.100.17:1813", "secret": "the secret of home"},
+        {"auth": "198.51.100.18:11812", "secret": "the secret of the second"}])
+    want(conf["realm"][1]["server"] == [
+        {"auth": "198.51.100.17:1812", "secret": "the secret of home"}, {"acct": "198.51.100.19:1813", "secret": "another secret"}])
     decided(look_over("decided.conf", DECIDED, 4, 4, DECIDED_TOLD, [], roam))
     both = look_over("both-kinds.conf", BOTH_KINDS, 2, 1, [], [], roam)
     want(both["auth"] == ["203.0.113.10:1812", "[2001:db8:1::10]:1812"] and both["acct"] == ["203.0.113.10:1813", "[2001:db8:1::10]:1813"])

@@ -1,7 +1,7 @@
 #!/usr/bin/env python3
 """try-diagnoses.py PROGRAM [--table]
 
-Makes 139 mistakes in samples/visited-network.conf, one at a time, and runs `PROGRAM check` on each. The diagnosis
+Makes 137 mistakes in samples/visited-network.conf, one at a time, and runs `PROGRAM check` on each. The diagnosis
 must name the fault, and the line, the table and the key where the mistake was made, and what is wrong with it. No
 output may hold a secret of the file. --table prints a row for each.
 """
@@ -512,7 +512,7 @@ MISTAKES = [
     *(missing(TOP, key) for key in ("auth", "acct")),
     *(missing(ONE_PEER, key) for key in ("name", "ip", "secret") if key != "name"),
     missing(REALM, "out", 0),
-    *(missing(SERVER, key, nth) for key, nth in (("auth", 0), ("acct", 1), ("secret", 2))),
+    missing(SERVER, "secret", 2),
     unknown(TOP, "tracelimit", "the top table"),
     unknown(REALM, "max-pending", "a realm", 1),
     unknown(SERVER, "max_hops", "a server: it is one of the top table, so put it before the first table", 2),
@@ -521,7 +521,7 @@ MISTAKES = [
     syntax("backslash", SERVER, "secret", r'secret = "a\d"', 13, 0, "a backslash is itself between"),
     ("[peer] twice", single_peer_twice),
     ("[[server]] beside others", server_beside),
-    misspelt(SERVER, "acct", "accounting", "a server", 1),
+    misspelt(SERVER, "secret", "password", "a server", 1),
     unknown(TOP, "max_hop", "the top table"),
     unknown(REALM, "require_seal", "a realm", 0),
     unknown(SERVER, "rest", "a server", 1),

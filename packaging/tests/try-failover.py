@@ -17,7 +17,6 @@ import argparse
 import os
 import re
 import select
-import subprocess
 import sys
 import threading
 import time
@@ -25,13 +24,13 @@ import time
 sys.dont_write_bytecode = True
 from around import command, tried
 from looks import go_on, want
+from peap import PASSWORD, SECRET, accepted_by, logs_in, start_home, write_certificate
 from radius import access_with_password, bound, packets
 from server import configuration, peer, realm
 
 BROKER, FIRST, SECOND, ACCESS = "127.0.10.1", "127.0.10.17", "127.0.10.18", "127.0.10.33"
-AUTH, ACCT, OUT, SECRET, USER, PASSWORD = 29012, 29013, 29020, "a secret of everybody here", "u@a.example", "hello"
+AUTH, ACCT, OUT, USER = 29012, 29013, 29020, "u@a.example"
 LOOPS, REST = 6, 15000
-
 
 
 def conf(seals):
@@ -42,88 +41,18 @@ def conf(seals):
         auth=f"{BROKER}:{AUTH}", acct=f"{BROKER}:{ACCT}", max_attributes=195)
 
 
-# One that has users for PEAP and keeps silent about those of the name `nobody`.
-HOME = """
-client broker {{ ipaddr = {broker}; secret = "{secret}" }}
-modules {{
-  eap {{
-    default_eap_type = peap
-    timer_expire = 60
-    max_sessions = 4096
-    tls-config common {{
-      private_key_file = {directory}/key.pem
-      certificate_file = {directory}/cert.pem
-      ca_file = {directory}/cert.pem
-      cipher_list = "DEFAULT"
-      tls_min_version = "1.2"
-      tls_max_version = "1.2"
-    }}
-    peap {{ tls = common; default_eap_type = mschapv2; copy_request_to_tunnel = no; use_tunneled_reply = no; virtual_server = "inner" }}
-    mschapv2 {{ }}
-  }}
-  mschap {{ }}
-  pap {{ }}
-  always ok {{ rcode = ok }}
-  always handled {{ rcode = handled }}
-}}
-server default {{
-  listen {{ type = auth; ipaddr = {ip}; port = {auth} }}
-  authorize {{
-    if (&User-Name =~ /^nobody/) {{
-      update control {{ Response-Packet-Type := Do-Not-Respond }}
-      handled
-    }}
-    eap {{ ok = return }}
-    update control {{ Cleartext-Password := "{password}" }}
-    update reply {{ Message-Authenticator := 0x00 }}
-    pap
-  }}
-  authenticate {{ pap; eap }}
-}}
-server inner {{
-  authorize {{
-    update control {{ Cleartext-Password := "{password}" }}
-    mschap
-    eap
-  }}
-  authenticate {{ mschap; eap }}
-}}
-"""
-
-SUPPLICANT = """network={{
-  key_mgmt=WPA-EAP
-  eap=PEAP
-  identity="{user}"
-  password="{password}"
-  phase1="peapver=0"
-  phase2="auth=MSCHAPV2"
-}}
-"""
-
-
 class Login(threading.Thread):
     """Logs in again and again, and keeps when each login began and ended, and whether it succeeded."""
 
-    def __init__(self, number, conf, ends):
+    def __init__(self, number, around, ends):
         super().__init__(daemon=True)
-        self.number, self.conf, self.ends, self.logins = number, conf, ends, []
+        self.number, self.around, self.ends, self.logins = number, around, ends, []
 
     def run(self):
-        words = [command("eapol_test"), "-c", self.conf, "-a", BROKER, "-p", str(AUTH), "-s", SECRET, "-A", ACCESS, "-t", "30",
-                 "-M", f"02:00:00:00:00:{self.number:02x}"]
         while time.monotonic() < self.ends:
             begun = time.monotonic()
-            ran = subprocess.run(words, stdout=subprocess.PIPE, stderr=subprocess.STDOUT, stdin=subprocess.DEVNULL, check=False)
-            self.logins.append((begun, time.monotonic(), ran.returncode == 0 and ran.stdout.rstrip().endswith(b"SUCCESS")))
-
-
-def start_home(around, name, ip):
-    around.freeradius(name, HOME.format(broker=BROKER, secret=SECRET, directory=around.directory, ip=ip, auth=AUTH, password=PASSWORD), verbose=False)
-
-
-def accepted_by(around, name):
-    """How many logins a home server has accepted: a line of its log is written for each."""
-    return around.log(name).count("Login OK")
+            success = logs_in(self.around, f"loop-{self.number}", USER, (ACCESS, BROKER, AUTH), f"02:00:00:00:00:{self.number:02x}")
+            self.logins.append((begun, time.monotonic(), success))
 
 
 def said_of(around, endpoint):
@@ -133,9 +62,8 @@ def said_of(around, endpoint):
 
 def try_outage(around, seconds):
     """A home server dies and comes back under six logins side by side."""
-    conf = around.write("peap.conf", SUPPLICANT.format(user=USER, password=PASSWORD))
     begun = time.monotonic()
-    loops = [Login(number, conf, begun + seconds) for number in range(LOOPS)]
+    loops = [Login(number, around, begun + seconds) for number in range(LOOPS)]
     for loop in loops:
         loop.start()
     time.sleep(seconds / 6)
@@ -143,11 +71,11 @@ def try_outage(around, seconds):
     around.kill("first")
     time.sleep(min(40, seconds / 3))
     # What the one that was killed had accepted isn't counted: the log goes on.
-    before = accepted_by(around, "first")
-    start_home(around, "first", FIRST)
+    before = len(accepted_by(around, "first"))
+    start_home(around, "first", (FIRST, AUTH), BROKER)
     back, used = time.monotonic(), None
     while any(loop.is_alive() for loop in loops):
-        if used is None and accepted_by(around, "first") > before:
+        if used is None and len(accepted_by(around, "first")) > before:
             used = time.monotonic() - back
         time.sleep(0.25)
     logins = [login for loop in loops for login in loop.logins]
@@ -206,11 +134,10 @@ def main():
 
     def start(around):
         command("eapol_test")
-        subprocess.run([command("openssl"), "req", "-x509", "-newkey", "rsa:2048", "-nodes", "-subj", "/CN=home", "-days", "9", "-keyout",
-                        around.path("key.pem"), "-out", around.path("cert.pem")], check=True, stderr=subprocess.DEVNULL)
+        write_certificate(around)
         around.broker(program, conf(not given.no_seals), int(given.seconds * 1000) + 120000)
-        start_home(around, "first", FIRST)
-        start_home(around, "second", SECOND)
+        start_home(around, "first", (FIRST, AUTH), BROKER)
+        start_home(around, "second", (SECOND, AUTH), BROKER)
 
     def look(around):
         try_outage(around, given.seconds)

@@ -101,6 +101,9 @@ client 192.0.2.2 { secret = of-two }
 client wired { ipaddr = 192.0.2.16/30; secret = 'of wired'; coa_server = one-coa; require_message_authenticator = yes }
 client dormitories { ipaddr = 10.20.0.0/16; secret = of-many }
 client six { ipv6addr = 2001:db8::1; secret = of-six }
+client left { ipaddr = 192.0.2.50; secret = of-both; shortname = pair }
+client between { ipaddr = 192.0.2.52; secret = of-another; shortname = pair }
+client right { ipaddr = 192.0.2.51; secret = of-both; shortname = pair }
 client undecided { ipaddr = 192.0.2.40; secret = of-undecided; limit_proxy_state = auto }
 """
 PROXY = r"""proxy server { default_fallback = yes }
@@ -293,7 +296,10 @@ def main():
     first = conf["peer"][0]
     want(first["coa"] == "192.0.2.1:3799" and first["nas_ip"] == "192.0.2.1" and first["limit_proxy_state"] and "require_seal" not in first)
     want([it["name"] for it in conf["peer"] if it.get("require_seal")] == ["wired"])
-    want([it["ip"] for it in conf["peer"] if "coa" not in it] == ["192.0.2.2", "192.0.2.16/30", "10.20.0.0/16", "192.0.2.40"])
+    want([it["ip"] for it in conf["peer"] if "coa" not in it] == [
+        "192.0.2.2", "192.0.2.16/30", "10.20.0.0/16", ["192.0.2.50", "192.0.2.51"], "192.0.2.52", "192.0.2.40"])
+    # Clients of one shortname and one secret are one peer.
+    want([(it["name"], it["secret"]) for it in conf["peer"] if it["name"].startswith("pair")] == [("pair", "of-both"), ("pair-2", "of-another")])
     a, b, x, six, both, every = conf["realm"]
     want(six["out"].startswith("[::1]:") and [it["auth"] for it in six["server"]] == ["[2001:db8::2]:1812"])
     want([it["auth"] for it in both["server"]] == ["198.51.100.1:1812", "[2001:db8::2]:1812"])
@@ -304,6 +310,7 @@ def main():
     want(x["accounting"] == every["accounting"] == "answer" and every["also"] == ["*"] and every["rest_after"] == 50)
     want(conf["reject"] == ["here.example"] and conf["log_exchanges"] == "none" and "status_server" not in conf)
     want(conf["log_station"] == "hmac" and "18120" not in str(conf["auth"]))
+    want([it["name"] for it in conf["realm"] if it.get("balance")] == ["b.example"] and b["balance"] == "user")
     want(b["conversations"] and "conversations" not in a and a["own_sessions"] and "own_sessions" not in x and conf["max_attributes"] == 150)
     print(f"{agree(converter.realms_in_roam(conf))} names mean the same realm")
     over_tls(roam)

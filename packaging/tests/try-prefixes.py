@@ -26,6 +26,8 @@ FILES = [
     ([("everybody", "0.0.0.0/0"), ("three", "127.0.0.2"), NETWORK], "network"),
     ([("everybody", "0.0.0.0/0")], "everybody"),
     ([("three", "127.0.0.0/31"), ("everybody", "0.0.0.0/0"), NETWORK], "three"),
+    ([("three", ["127.0.0.2", "127.0.0.0/30"]), ("everybody", ["0.0.0.0/0", "127.0.0.0/31"]), NETWORK], "everybody"),
+    ([("three", ["10.0.0.0/8", HERE]), ("everybody", ["127.0.0.0/31", "0.0.0.0/0"]), NETWORK], "three"),
 ]
 NAMES = sorted({name for peers, _ in FILES for name, _ in peers})
 

@@ -114,7 +114,7 @@ SESSIONS = [
 
 def within(peer):
     """An address of the peer's: of a prefix the last."""
-    return peer["prefix"][-1]
+    return peer["prefixes"][-1][-1]
 
 
 def request(code, number, user, secret, how):
@@ -272,7 +272,7 @@ def look_at_homes(config):
         for server in realm["server"]:
             if server["auth"].startswith("192.0.2."):
                 address = ipaddress.ip_address(server["auth"].rpartition(":")[0])
-                peers = [it["name"] for it in config.peers if address in it["prefix"]]
+                peers = [it["name"] for it in config.peers if any(address in prefix for prefix in it["prefixes"])]
                 want(peers == [realm["name"].partition(".")[0]], f"{address} of {realm['name']} is of the peers {peers}")
 
 

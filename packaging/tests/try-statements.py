@@ -22,7 +22,7 @@ from server import run
 ROOT = os.path.dirname(os.path.dirname(os.path.dirname(os.path.abspath(__file__))))
 FOLDERS = ("packaging/samples", "examples")
 # What counts where one of these is absent can't be written.
-WITHOUT_DEFAULT = {"max_hops", "metrics", "control", "coa", "nas_ip", "nas_ipv6", "nas_id", "reverse", "operator_name", "operator_namespace", "peers", "share", "acct",
+WITHOUT_DEFAULT = {"max_hops", "metrics", "control", "coa", "nas_ip", "nas_ipv6", "nas_id", "reverse", "operator_name", "operator_namespace", "peers", "share", "auth", "acct", "balance",
                    "max_attributes", "fresh", "peer_share", "coa_client", "state"}
 ENDPOINTS = {"auth", "acct", "out", "reverse", "coa", "metrics"}
 USAGE = "usage: roam check CONF\n"
@@ -40,13 +40,13 @@ def keys_of_page():
 
 
 def spelled(key, value):
-    """A value as it is printed: of an address, a prefix and an endpoint there is one text (RFC 5952); one endpoint stands alone."""
+    """A value as it is printed: of an address, a prefix and an endpoint there is one text (RFC 5952); one of an array stands alone."""
+    if key in ENDPOINTS | {"ip"} and isinstance(value, list):
+        each = [spelled(key, one) for one in value]
+        return each[0] if len(each) == 1 else each
     if key in ("ip", "nas_ipv6"):
         network = ipaddress.ip_network(value)
         return str(network.network_address if network.num_addresses == 1 else network)
-    if key in ENDPOINTS and isinstance(value, list):
-        each = [spelled(key, one) for one in value]
-        return each[0] if len(each) == 1 else each
     if key in ENDPOINTS:
         host, port = value.rsplit(":", 1)
         return f"[{ipaddress.ip_address(host[1:-1])}]:{port}" if host.startswith("[") else value

@@ -13,27 +13,27 @@ ROOT = pathlib.Path(__file__).resolve().parents[2]
 
 
 def rows(folder: str = "r*") -> list[str]:
-    """The text of each file of rows, of both folders or of one."""
+    """Returns the text of each file of rows, of both folders or of one."""
     return [path.read_text(encoding="utf-8") for path in (ROOT / "crates" / "test_rows" / "data").glob(f"{folder}/*")]
 
 
 def lines_that_begin(*words: str) -> int:
-    """How many lines of the rows begin so."""
+    """Returns how many lines of the rows begin so."""
     return sum(line.startswith(words) for text in rows() for line in text.split("\n"))
 
 
 def plays() -> int:
-    """How often rows are played: each over three brokers, and those of `rows/` through hubs too."""
+    """Returns how often rows are played: each over three brokers, and those of `rows/` through hubs too."""
     return sum(text.count("#@ ") * 3 for text in rows()) + sum(text.count("#@ ") for text in rows("rows"))
 
 
 def signed_anew() -> int:
-    """How many mutated datagrams are sealed and signed anew."""
+    """Returns how many mutated datagrams are sealed and signed anew."""
     return sum(text.count(", signed anew") for text in rows())
 
 
 def diagnosed() -> int:
-    """How many mistakes the trial of diagnoses makes."""
+    """Returns how many mistakes the trial of diagnoses makes."""
     sys.dont_write_bytecode = True
     sys.path.insert(0, str(ROOT / "packaging" / "tests"))
     return len(importlib.import_module("try-diagnoses").MISTAKES)
@@ -73,7 +73,7 @@ CONSTANTS = {
 
 
 def constant(path: str, name: str) -> int:
-    """A constant of the code, which may be a product."""
+    """Returns a constant of the code, which may be a product."""
     found = re.search(rf"const {name}: \w+ = ([\d_* ]+);", (ROOT / "crates" / path).read_text(encoding="utf-8"))
     factors = [int(it.replace("_", "")) for it in found.group(1).split("*")]
     return math.prod(factors)
@@ -83,7 +83,7 @@ GOOD = "the counts on the pages are those of the sources"
 
 
 def faults() -> list[str]:
-    """Each count that isn't, with its page and line."""
+    """Returns each count that isn't, with its page and line."""
     said, known = [], {}
     counted = COUNTS | {pattern: lambda where=where: constant(*where) for pattern, where in CONSTANTS.items()}
     pages = [ROOT / "README.md", *sorted((ROOT / "docs").glob("*.md")), *ROOT.glob("*/README.md"), *ROOT.glob("packaging/**/try-*")]

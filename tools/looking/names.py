@@ -38,13 +38,13 @@ def names_of_code() -> dict[str, tuple[set[str], set[str]]]:
 
 
 def is_there(code: dict[str, tuple[set[str], set[str]]], crate: str, first: str, second: str) -> bool:
-    """Whether a crate, the named one where one is, has the first name, and the second one as a function, a type or a module."""
+    """Says whether a crate, the named one where one is, has the first name, and the second one as a function, a type or a module."""
     return any(first in others and (second in functions or second in others)
                for name, (functions, others) in code.items() if crate in ("", name))
 
 
 def spec_names() -> set[str]:
-    """The definitions in specs."""
+    """Returns the definitions in specs."""
     found = set()
     for path in ROOT.glob("crates/*/specs/**/*.antt"):
         found |= set(re.findall(r"^(?:abbrev |unfoldable )?pub (?:record |data )?([A-Za-z_][A-Za-z0-9_'-]*)",
@@ -53,7 +53,7 @@ def spec_names() -> set[str]:
 
 
 def missing_file(name: str, page: pathlib.Path) -> bool:
-    """Whether a path is one of the repository, and isn't there."""
+    """Says whether a path is one of the repository, and isn't there."""
     name = name.split("#")[0].rstrip("/")
     if not name or any(it in name for it in "*<>{} ") or name.isupper() or "NAME" in name or "/out/" in name:
         return False
@@ -63,7 +63,7 @@ def missing_file(name: str, page: pathlib.Path) -> bool:
 
 
 def sections_of(page: pathlib.Path) -> tuple[set[str], list[str]]:
-    """The anchors of a page's headings, and what its headings and bold texts say."""
+    """Returns the anchors of a page's headings, and what its headings and bold texts say."""
     text = page.read_text(encoding="utf-8") if page.exists() else ""
     heads = re.findall(r"^#+ (.*)$", text, re.M)
     anchors = {re.sub(r"[^\w -]", "", it.lower()).replace(" ", "-") for it in heads}
@@ -71,7 +71,7 @@ def sections_of(page: pathlib.Path) -> tuple[set[str], list[str]]:
 
 
 def missing_sections(page: pathlib.Path, text: str) -> list[str]:
-    """The sections that a page names, of itself or of another page, and that aren't there."""
+    """Returns the sections that a page names, of itself or of another page, and that aren't there."""
     found = [f"{link}#{anchor}" for link, anchor in re.findall(r"\]\(([^)#:]*)#([^)]+)\)", text)
              if anchor not in sections_of(page.parent / link if link else page)[0]]
     named = [(ROOT / link, title) for link, title in re.findall(r"`(docs/[A-Z]+\.md)`,\s+\"([^\"`]+)\"", text)]
@@ -84,19 +84,19 @@ def missing_sections(page: pathlib.Path, text: str) -> list[str]:
 
 
 def words_of_code() -> set[str]:
-    """All words of the sources, and the crates."""
+    """Returns all words of the sources, and the crates."""
     texts = (it.read_text(encoding="utf-8", errors="ignore") for pattern in SOURCES for it in ROOT.glob(pattern) if it.is_file())
     return {word for text in texts for word in re.findall(r"\w+", text)} | {it.name for it in (ROOT / "crates").iterdir()}
 
 
 def missing_words(text: str, words: set[str]) -> list[str]:
-    """The names in backticks, with an underscore or a capital within, that no source has; not what a tool made of a day's run."""
+    """Returns the names in backticks, with an underscore or a capital within, that no source has; not what a tool made of a day's run."""
     quoted = re.findall(r"`(\w+)`", re.sub(r"^```.*?^```|<!-- minutes: made .*?<!-- minutes: end -->", "", text, flags=re.M | re.S))
     return [it for it in quoted if re.search(r"._|.[A-Z]", it) and not it.isupper() and it not in words]
 
 
 def missing_rust(text: str) -> list[str]:
-    """The first lines of the blocks of Rust on a page that no caller has, whatever the blanks."""
+    """Returns the first lines of the blocks of Rust on a page that no caller has, whatever the blanks."""
     callers = "".join(it.read_text(encoding="utf-8") for it in sorted(ROOT.glob("crates/test_callers/src/*.rt")))
     blocks = re.findall(r"^```rust\n(.*?)^```", text, re.M | re.S)
     return [it.split("\n")[0] for it in blocks if "".join(it.split()) not in "".join(callers.split())]
@@ -136,7 +136,7 @@ GOOD = "each name on the pages is there"
 
 
 def faults() -> list[str]:
-    """What isn't there, with its page and line."""
+    """Returns what isn't there, with its page and line."""
     code, specs = names_of_code(), spec_names()
     pages = [ROOT / "README.md", *sorted((ROOT / "docs").glob("*.md"))]
     texts = {page: page.read_text(encoding="utf-8") for page in pages} | definitions.made()

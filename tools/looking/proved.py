@@ -15,7 +15,7 @@ ELSEWHERE = pathlib.Path(__file__).with_suffix(".txt")
 
 
 def head_of(crate: pathlib.Path) -> list[tuple[str, str]]:
-    """What a crate's head says is proved, and where."""
+    """Returns what a crate's head says is proved, and where."""
     path = next(it for it in (crate / "src" / "lib.rt", crate / "src" / "main.rt") if it.exists())
     rows: list[str] = []
     is_in = False
@@ -57,7 +57,7 @@ def crates() -> list[pathlib.Path]:
 
 
 def lost_names(crate: str, elsewhere: dict[str, str]) -> list[str]:
-    """What is wrong with the names behind a crate's claims."""
+    """Returns what is wrong with the names behind a crate's claims."""
     said, own, unused = [], names_of(crate) | {"Display"}, set(elsewhere)
     for claim, where in head_of(ROOT / "crates" / crate):
         if not where:
@@ -77,6 +77,6 @@ GOOD = "each name behind the crates' lists of what is proved is there"
 
 
 def faults() -> list[str]:
-    """What is wrong with the heads."""
+    """Returns what is wrong with the heads."""
     elsewhere = names_elsewhere()
     return [it for crate in crates() for it in lost_names(crate.name, elsewhere.get(crate.name, {}))]

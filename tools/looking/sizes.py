@@ -16,7 +16,7 @@ FILE, BODY, COLUMNS = 300, 40, 120
 
 
 def bodies_of(text: str) -> list[tuple[str, int]]:
-    """The functions of a file, with how many lines the body of each has."""
+    """Returns the functions of a file, with how many lines the body of each has."""
     lines = text.split("\n")
     found = []
     for at, line in enumerate(lines):
@@ -35,12 +35,12 @@ def bodies_of(text: str) -> list[tuple[str, int]]:
 
 
 def is_long(line: str) -> bool:
-    """Whether a line has too many columns, and could have fewer."""
+    """Says whether a line has too many columns, and could have fewer."""
     return len(line) > COLUMNS and not re.match(r"\s*(?:pub |ghost )?use |\s*//! ", line) and not re.match(r'\s*"[^"]*",?$', line)
 
 
 def longer() -> dict[str, int]:
-    """What passes a limit, and how long it is."""
+    """Returns what passes a limit, and how long it is."""
     found: dict[str, int] = {}
     for path in sorted([*ROOT.glob("crates/*/src/**/*.rt"), *ROOT.glob("crates/*/specs/**/*.antt"), *ROOT.glob("crates/*/proofs/**/*.antt")]):
         text = path.read_text(encoding="utf-8")
@@ -59,7 +59,7 @@ def longer() -> dict[str, int]:
 
 
 def excepted() -> dict[str, int]:
-    """The exceptions, and how long each may be."""
+    """Returns the exceptions, and how long each may be."""
     lines = KEPT.read_text(encoding="utf-8").split("\n") if KEPT.exists() else []
     return {name: int(size) for size, _, name in (line.partition(" ") for line in lines if line)}
 
@@ -68,7 +68,7 @@ GOOD = "nothing is longer than it may be"
 
 
 def faults() -> list[str]:
-    """What is longer and isn't among the exceptions."""
+    """Returns what is longer and isn't among the exceptions."""
     may = excepted()
     return [f"{name}: {size}, where {may.get(name, 0) or 'the limit'} may be" for name, size in longer().items() if size > may.get(name, 0)]
 

@@ -13,13 +13,13 @@ SKIPPED = re.compile(r"\s*(//|(pub(\(\w+\))? )?use\b|ghost\b|requires\b|ensures\
 
 
 def sources() -> dict[str, list[str]]:
-    """The lines of each file of the product, but those of tests."""
+    """Returns the lines of each file of the product, but those of tests."""
     paths = [it for it in sorted(ROOT.glob("crates/roam*/src/**/*.rt")) if it.stem != "tests"]
     return {str(it.relative_to(ROOT / "crates")): it.read_text(encoding="utf-8").split("\n") for it in paths}
 
 
 def calls(files: dict[str, list[str]]) -> collections.Counter[str]:
-    """How often each name is called."""
+    """Returns how often each name is called."""
     found: collections.Counter[str] = collections.Counter()
     for lines in files.values():
         for line in lines:
@@ -30,7 +30,7 @@ def calls(files: dict[str, list[str]]) -> collections.Counter[str]:
 
 
 def first_line(lines: list[str], at: int) -> str:
-    """The first line of what stands above a line, between attributes too."""
+    """Returns the first line of what stands above a line, between attributes too."""
     said = ""
     for line in reversed(lines[:at]):
         if not re.match(r"\s*(///|#\[|#!\[)", line):
@@ -43,7 +43,7 @@ GOOD = "what only tests call says so"
 
 
 def faults() -> list[str]:
-    """Each such function, with its file."""
+    """Returns each such function, with its file."""
     files = sources()
     called, types, unsaid = calls(files), set(), set()
     for lines in files.values():

@@ -30,7 +30,7 @@ class Point:
         self.words, self.lines = words, {}
 
     def cited(self) -> list[tuple[pathlib.Path, str, list[str]]]:
-        """The contracts and laws: file, name, clauses."""
+        """Returns the contracts and laws: file, name, clauses."""
         found = []
         if self.lines.get("by") == "none":
             return found
@@ -43,17 +43,17 @@ class Point:
         return found
 
     def state(self) -> str:
-        """The first word of what is proved of it."""
+        """Returns the first word of what is proved of it."""
         return re.match(r"\w*", self.lines.get("is", "")).group()
 
     def shown(self) -> list[pathlib.Path]:
-        """The mistakes and trials."""
+        """Returns the mistakes and trials."""
         items = filter(None, map(str.strip, self.lines.get("shown", "").split(";")))
         return [ROOT / it if it.startswith(("packaging/", "crates/")) else ROOT / "mistakes" / f"{it}.edit" for it in items]
 
 
 def read() -> list[str | Point]:
-    """The page's words and headings, and the points, in order."""
+    """Returns the page's words and headings, and the points, in order."""
     found: list[str | Point] = []
     key = ""
     for line in LIST.read_text(encoding="utf-8").split("\n"):
@@ -75,7 +75,7 @@ def read() -> list[str | Point]:
 
 
 def link_to(path: pathlib.Path) -> str:
-    """A mistake as its function and words, in bold type where the gate may choose it, or a trial by its name."""
+    """Returns a mistake as its function and words, in bold type where the gate may choose it, or a trial by its name."""
     function, _, words = path.stem.partition("-")
     text = f"`{function}`: {words.replace('_', ' ')}" if path.suffix == ".edit" else path.name
     mark = "**" if path.suffix == ".edit" and path.exists() and re.search("^only: ", path.read_text(encoding="utf-8"), re.M) else ""
@@ -83,7 +83,7 @@ def link_to(path: pathlib.Path) -> str:
 
 
 def row_of(point: Point) -> str:
-    """A row of the page."""
+    """Returns a row of the page."""
     by = "; ".join(f"[`{name}`](../{path.relative_to(ROOT)})" + (": " + ", ".join(f"`{it}`" for it in clauses) if clauses else "")
                    for path, name, clauses in point.cited())
     shown = "; ".join(map(link_to, point.shown()))
@@ -91,7 +91,7 @@ def row_of(point: Point) -> str:
 
 
 def written() -> str:
-    """The page."""
+    """Returns the page."""
     page, is_table = [MARK], False
     for it in read():
         if isinstance(it, Point):
@@ -106,7 +106,7 @@ def written() -> str:
 
 
 def missing_in(path: pathlib.Path, name: str, clauses: list[str]) -> list[str]:
-    """What a file doesn't have of a cited name and its clauses."""
+    """Returns what a file doesn't have of a cited name and its clauses."""
     if not path.exists():
         return [f"{path.relative_to(ROOT)} isn't there"]
     text = path.read_text(encoding="utf-8")
@@ -120,7 +120,7 @@ def missing_in(path: pathlib.Path, name: str, clauses: list[str]) -> list[str]:
 
 
 def faults() -> list[str]:
-    """What is cited and isn't there."""
+    """Returns what is cited and isn't there."""
     said = []
     for point in (it for it in read() if isinstance(it, Point)):
         wrong = [f"no line `{it}:`" for it in ("by", "is") if it not in point.lines]

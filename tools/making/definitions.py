@@ -41,7 +41,7 @@ def file_of(crate: str, name: str) -> pathlib.Path:
 
 
 def blocks_of(path: pathlib.Path) -> dict[str, list[str]]:
-    """The comments of this form in a file, by plain name."""
+    """Returns the comments of this form in a file, by plain name."""
     blocks: dict[str, list[str]] = {}
     now: list[str] | None = None
     for line in path.read_text(encoding="utf-8").split("\n"):
@@ -56,7 +56,7 @@ def blocks_of(path: pathlib.Path) -> dict[str, list[str]]:
 
 
 def parts_of(block: list[str]) -> tuple[str, dict[str, str]]:
-    """The words of a comment, and what stands behind its tags."""
+    """Returns the words of a comment, and what stands behind its tags."""
     words: list[str] = []
     tags: dict[str, str] = {}
     tag = None
@@ -73,7 +73,7 @@ def parts_of(block: list[str]) -> tuple[str, dict[str, str]]:
 
 
 def head_of(path: pathlib.Path) -> str:
-    """What the first sentence of a file says it is about."""
+    """Returns what the first sentence of a file says it is about."""
     words = []
     for line in path.read_text(encoding="utf-8").split("\n"):
         if not line.startswith("-- ") or line.startswith("-- ## "):
@@ -83,7 +83,7 @@ def head_of(path: pathlib.Path) -> str:
 
 
 def ordered() -> list[tuple[str, str, list[str]]]:
-    """The lines of docs/definitions.txt: a kind (heading, words, files, not), a text or crate, and files."""
+    """Returns the lines of docs/definitions.txt: a kind (heading, words, files, not), a text or crate, and files."""
     lines, kind = [], "files"
     for line in ORDER.read_text(encoding="utf-8").split("\n"):
         if line.startswith("## "):
@@ -99,7 +99,7 @@ def ordered() -> list[tuple[str, str, list[str]]]:
 
 
 def others(lines: list[tuple[str, str, list[str]]]) -> dict[str, list[pathlib.Path]]:
-    """The files without definitions on the page, by kind."""
+    """Returns the files without definitions on the page, by kind."""
     found: dict[str, list[pathlib.Path]] = {kind: [] for kind in KINDS}
     named = {file_of(crate, name): kind for kind, crate, files in lines for name in files}
     for path in sorted(ROOT.glob("crates/*/specs/**/*.antt")):
@@ -133,7 +133,7 @@ class Terms:
         self.first = {ROOT / "crates" / one.crate / one.path for chapter in book.chapters[:3] for one in chapter.order}
 
     def of_file(self, path: pathlib.Path, told: set[str] = frozenset()) -> list[str]:
-        """The terms of a file, without the comments of those that are told above."""
+        """Returns the terms of a file, without the comments of those that are told above."""
         group = [Definition(it.crate, it.path, it.name, [] if it.name in told else it.comment, it.text) for it in self.left.pop(path, [])]
         page: list[str] = []
         if group:
@@ -143,7 +143,7 @@ class Terms:
         return page
 
     def of_code(self, crate: str) -> list[str]:
-        """The types and constants of a crate's code."""
+        """Returns the types and constants of a crate's code."""
         return [line for path in sorted(it for it in self.left if it.is_relative_to(ROOT / "crates" / crate / "src")) for line in self.of_file(path)]
 
     def of_others(self) -> list[str]:
@@ -151,14 +151,14 @@ class Terms:
 
 
 def told_in(path: pathlib.Path) -> set[str]:
-    """The definitions of a file that its words on the page tell."""
+    """Returns the definitions of a file that its words on the page tell."""
     tags = " ".join(parts_of(block)[1].get("Stands in", "") for block in blocks_of(path).values())
     found = re.findall(r"`%s\.antt`:((?:,? `[A-Za-z_]+`(?: and)?)+)" % path.stem, tags)
     return set(re.findall(r"`([A-Za-z_]+)`", " ".join(found)))
 
 
 def written() -> str:
-    """The page."""
+    """Returns the page."""
     lines, terms, begun = ordered(), Terms(), set()
     page = [MARK, "# The definitions of the broker\n"]
     for kind, text, files in lines:
@@ -183,7 +183,7 @@ def written() -> str:
 
 
 def faults() -> list[str]:
-    """What is wrong with the order and with the names behind "Stands in"."""
+    """Returns what is wrong with the order and with the names behind "Stands in"."""
     lines, said = ordered(), []
     listed = {file_of(crate, name): kind for kind, crate, files in lines for name in files}
     said += [f"docs/definitions.txt: {path.relative_to(ROOT)} isn't there" for path in listed if not path.exists()]
@@ -200,7 +200,7 @@ def faults() -> list[str]:
 
 
 def missing(text: str) -> list[str]:
-    """The names that aren't in the files where a text says that they stand."""
+    """Returns the names that aren't in the files where a text says that they stand."""
     said = []
     crate = ""
     for found in re.finditer(r"`(roam[a-z_]*)`(?= `)|`([A-Za-z/]+)\.antt`:((?:,? `[A-Za-z_]+`(?: and)?)+)", text):

@@ -28,7 +28,7 @@ COMPOSED = {"roam: PATH: REASON", "roam: PATH:LINE: isn't UTF-8"}
 
 
 def rows_of(page: str, first: str) -> list[list[str]]:
-    """The rows of a page's table whose header begins with this cell."""
+    """Returns the rows of a page's table whose header begins with this cell."""
     rows, is_in = [], False
     for line in (ROOT / "docs" / page).read_text(encoding="utf-8").split("\n"):
         cells = [it.strip() for it in line.strip().strip("|").split(" | ")]
@@ -42,7 +42,7 @@ def rows_of(page: str, first: str) -> list[list[str]]:
 
 
 def in_mdoc(text: str) -> str:
-    """A text with words in backticks, as mdoc(7)."""
+    """Returns a text with words in backticks, as mdoc(7)."""
     lines: list[str] = []
     for place, part in enumerate(text.split("`")):
         if place % 2:
@@ -57,13 +57,13 @@ def in_mdoc(text: str) -> str:
             part = "\\&" + part
         if part:
             # A sentence begins a line.
-            for sentence in re.sub(r"([a-z0-9)]\.) (?=[A-Za-z0-9])", "\\1\n", part).split("\n"):
+            for sentence in re.sub(r"([A-Za-z0-9)]\.) (?=[A-Za-z0-9])", "\\1\n", part).split("\n"):
                 lines += textwrap.wrap(sentence, 78, break_on_hyphens=False)
     return "\n".join(lines)
 
 
 def as_sentence(text: str) -> str:
-    """A cell as a sentence."""
+    """Returns a cell as a sentence."""
     text = text[0].upper() + text[1:] if text[0].islower() else text
     return text if text.endswith((".", ":")) else text + "."
 
@@ -98,7 +98,7 @@ def faults_in_mdoc() -> str:
 
 
 def manual() -> str:
-    """The manual page with its lists made anew."""
+    """Returns the manual page with its lists made anew."""
     page = MANUAL.read_text(encoding="utf-8")
     for name, made in (("keys", keys_in_mdoc()), ("refusals", refusals_in_mdoc()), ("faults", faults_in_mdoc())):
         begin, end = f'.\\" {name}: made by tools/pages.py\n', f'.\\" {name}: end\n'
@@ -109,7 +109,7 @@ def manual() -> str:
 
 
 def keys_of_the_reader() -> dict[str, set[str]]:
-    """The keys that the reader knows, by table."""
+    """Returns the keys that the reader knows, by table."""
     text = (ROOT / "crates" / "roam_conf_reader" / "src" / "tables.rt").read_text(encoding="utf-8")
     found: dict[str, set[str]] = {}
     for table, keys in re.findall(r"const (SERVER|CLIENT|PEER|REALM|TOP)(?:_OPTIONAL)?_KEYS: [^=]*= \[([^\]]*)\]", text):
@@ -118,7 +118,7 @@ def keys_of_the_reader() -> dict[str, set[str]]:
 
 
 def lost_texts() -> list[str]:
-    """The program's texts that have no row, and the rows whose text the program doesn't have."""
+    """Returns the program's texts that have no row, and the rows whose text the program doesn't have."""
     code = (ROOT / "crates" / "roam_cli" / "src" / "fault_text.rt").read_text(encoding="utf-8")
     stands_for = {"number": "N", "wanted": "N", "seconds": "S", "endpoint": "ENDPOINT", "fault": "NAME", "why": "WHY", "what": "WHAT"}
     # What begins with a colon stands behind a path, or behind the first word.
@@ -136,7 +136,7 @@ def lost_texts() -> list[str]:
 
 
 def faults() -> list[str]:
-    """What doesn't agree."""
+    """Returns what doesn't agree."""
     said, listed = [], {}
     for table, keys, _ in rows_of("FILES.md", "table"):
         listed.setdefault(table, set()).update(it.strip("`") for it in keys.split(", "))

@@ -1,4 +1,5 @@
-"""Writes docs/METRICS.md from what roam_metrics gives to Prometheus: names, labels, their values, and what each means (its HELP).
+"""Writes the metrics into docs/FILES.md, between two marks, from what roam_metrics gives to Prometheus: names, labels, their values, and what
+each means (its HELP).
 
 Wrong is a name in the sources of which nothing is told.
 """
@@ -7,18 +8,12 @@ import re
 
 ROOT = pathlib.Path(__file__).resolve().parents[2]
 SOURCES = ROOT / "crates" / "roam_metrics" / "src"
-PAGE = ROOT / "docs" / "METRICS.md"
+PAGE = ROOT / "docs" / "FILES.md"
+BEGIN, END = "<!-- metrics: made by tools/pages.py -->\n", "<!-- metrics: end -->\n"
 TEXT = r'"([^"]*)"'
-HEAD = """<!-- Made by tools/pages.py from crates/roam_metrics/src: change that. -->
-
-# The metrics of `roam serve`
-
-`GET /metrics` and `roam ctl metrics` answer these, in Prometheus' text format. `docs/OPERATING.md`, "Counts, for Prometheus", says how to
-turn them on, and which of them add up.
-"""
-
 ABOUT_WHO = """
-Only those that aren't 0 are there, each with the label `realm`, or `realm` and `server` (the home server's `auth`), or `peer`.
+Only those above 0 are there, each with the label `realm`, or `realm` and `server` (the home server's `auth`,
+or `acct` if it has no `auth`), or `peer`.
 """
 
 
@@ -27,7 +22,7 @@ def source(name: str) -> str:
 
 
 def row(name: str, label: str, values: list[str], told: str) -> str:
-    """A row of a table. Of a few values each stands there, of codes and numbers none."""
+    """Returns a row of a table. Of a few values each stands there, of codes and numbers none."""
     said = f"`{label}`" + (": " + ", ".join(f"`{it}`" for it in values) if 0 < len(values) < 6 else "") if label else ""
     return f"| `{name}` | {said} | {told} |".replace("|  |", "| |")
 
@@ -68,18 +63,18 @@ def standing() -> list[str]:
 
 
 def written() -> str:
-    """The page."""
-    page = [HEAD]
+    """Returns what stands between the marks."""
+    page = []
     for head, rows in (("Of the whole server", of_server()),
                        ("WHO is `realm`, `server` or `peer`", families()),
                        ("Gauges, read when the page is asked for", standing())):
         about = ABOUT_WHO if head.startswith("WHO") else ""
-        page += [f"\n## {head}\n{about}\n| metric | labels | |\n|---|---|---|", *rows]
-    return "\n".join(page).replace("\n\n\n", "\n\n") + "\n"
+        page += [f"\n### {head}\n{about}\n| metric | labels | |\n|---|---|---|", *rows]
+    return "\n".join(page).replace("\n\n\n", "\n\n").lstrip("\n") + "\n"
 
 
 def faults() -> list[str]:
-    """What is wrong."""
+    """Returns what is wrong."""
     page = written()
     told = {it.replace("_WHO_", who) for it in re.findall(r"`(\w+)`", page) for who in ("_realm_", "_server_", "_peer_")}
     names = {it for path in SOURCES.glob("*.rt") for it in re.findall(r'"((?:roam|process)_\w+)"', path.read_text(encoding="utf-8"))}
@@ -88,4 +83,6 @@ def faults() -> list[str]:
 
 
 def made() -> dict[pathlib.Path, str]:
-    return {PAGE: written()}
+    text = PAGE.read_text(encoding="utf-8")
+    above, below = text.split(BEGIN)[0], text.split(END)[1]
+    return {PAGE: above + BEGIN + written() + END + below}

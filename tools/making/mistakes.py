@@ -14,10 +14,11 @@ HEAD = """<!-- Made by tools/pages.py from the edits of mistakes/NAME: change th
 
 # Mistakes that the prover refuses
 
-Each is an edit of one function of the code, in no contract, definition or proof: a file of `mistakes/NAME`. They stand here by their crate,
-each as the function and the mistake: {count}. In bold type are the {chosen} of which the gate tries a third in each run, in functions that
-call little (they have a line `only: FUNCTION`); `mistakes/try.py --gate --all` tries these all, and `mistakes/try.py NAME` all of a crate.
-So whoever asks whether a mistake could be made unseen finds here what was tried; `rt plant` lists more, made by rule.
+These {count} edits show that the contracts catch mistakes: each changes one function of the code, and no contract, definition or proof, and the
+prover has to refuse it. A file of `mistakes/NAME` has one edit for the crate `NAME`; its name is the function and the mistake.
+
+`mistakes/try.py NAME` tries all of a crate. The gate tries a third of the {chosen} in bold type in each run, in functions that call little (they
+have a line `only: FUNCTION`); `mistakes/try.py --gate --all` tries all of these. `rt plant` makes more mistakes, by rule.
 """
 # Up to this crate each has a mistake that the gate can choose, but those whose mistakes weren't yet tried by their function alone.
 LAST = "roam_serve"
@@ -25,7 +26,7 @@ UNTRIED = {f"roam_{it}" for it in ("attendant", "kits", "run", "serve", "threads
 
 
 def crates() -> list[str]:
-    """The crates in their order."""
+    """Returns the crates in their order."""
     return re.findall(r"^(\w+):", (ROOT / "crates.txt").read_text(encoding="utf-8"), re.M)
 
 
@@ -40,7 +41,7 @@ def kept() -> dict[str, list[tuple[str, str, bool, pathlib.Path]]]:
 
 
 def is_edit(crate: str, path: pathlib.Path) -> bool:
-    """Whether each text that an edit changes is in its file, once."""
+    """Says whether each text that an edit changes is in its file, once."""
     text = path.read_text(encoding="utf-8")
     file = re.search(r"^file: (.*)$", text, re.M)
     olds = re.findall(r"(?:^old:.*\n)+", text, re.M)
@@ -52,12 +53,12 @@ def is_edit(crate: str, path: pathlib.Path) -> bool:
 
 
 def has_function(crate: str, function: str) -> bool:
-    """Whether a crate has a function of this name."""
+    """Says whether a crate has a function of this name."""
     return any(re.search(rf"\bfn {function}\b", path.read_text(encoding="utf-8")) for path in (ROOT / "crates" / crate / "src").rglob("*.rt"))
 
 
 def made() -> dict[pathlib.Path, str]:
-    """The page."""
+    """Returns the page."""
     mistakes = kept()
     every = [it for of in mistakes.values() for it in of]
     lines = [HEAD.format(count=len(every), chosen=sum(it[2] for it in every))]
@@ -70,7 +71,7 @@ def made() -> dict[pathlib.Path, str]:
 
 
 def faults() -> list[str]:
-    """What is wrong."""
+    """Returns what is wrong."""
     mistakes, names, said = kept(), crates(), []
     for crate, of in mistakes.items():
         said += [f"mistakes/{crate}: there is no such crate"] if crate not in names else []

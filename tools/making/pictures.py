@@ -63,7 +63,7 @@ def text(fields: list[str], texts: list[str]) -> list[str]:
 
 
 def terminal(lines: list[str], width: float) -> list[str]:
-    """The lines of a terminal, at the top of the picture."""
+    """Returns the lines of a terminal, at the top of the picture."""
     height = 17 * len(lines) + 20
     return [f'<rect x="8" y="8" width="{width - 16:g}" height="{height}" rx="6" fill="#1f2630"/>'] + [
         f'<text x="20" y="{30 + 17 * place}" font-family="DejaVu Sans Mono, monospace" font-size="12" fill="#e8e8e8" '
@@ -71,7 +71,7 @@ def terminal(lines: list[str], width: float) -> list[str]:
 
 
 def picture(source: str, name: str) -> str:
-    """The picture of a text."""
+    """Returns the picture of a text."""
     drawn, width, height, typed = [], 0.0, 0.0, []
     for number, row in enumerate(source.split("\n"), 1):
         if row.startswith(">"):

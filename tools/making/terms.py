@@ -24,6 +24,18 @@ TIES = [
     (("roam_reply", "ReplyCheck", "reply_fault"), ("roam_reply", "ReplyCheck", "TakenHasNoFault")),
 ]
 
+# Functions that stand under one comment in their file, and each one's own on a page.
+OWN_WORDS = {
+    ("roam_exchange", "packets_of"): "the packets of a turn",
+    ("roam_exchange", "refusal_of"): "why a turn sends nothing",
+    ("roam_exchange", "state_after"): "the state after a turn, from the one before it",
+    ("roam_core", "packets_in_turn"): "the packets of a broker's turn",
+    ("roam_core", "refusal_given"): "why a broker's turn sends nothing",
+    ("roam_core", "states_after"): "the states after a broker's turn, from those before it",
+    ("roam_core", "fresh_starts"): "where the realms of a fresh broker begin",
+    ("roam_core", "fresh"): "the states of a fresh broker's realms",
+}
+
 # Values for a place that isn't there, in functions that have to answer something: no premise reaches them.
 FILLERS = {"no_realm", "nowhere", "first_start", "no_state", "no_entry"}
 
@@ -45,7 +57,7 @@ def lines_of(crate, path):
 
 
 def imports_of(lines):
-    """What each name of a file stands for: a module and a name there, or a module."""
+    """Returns what each name of a file stands for: a module and a name there, or a module."""
     names, modules, public = {}, {}, []
     for line in lines:
         found = re.match(r"(pub )?use Rattle\.([A-Za-z0-9_.]+?)(?:\.\{(.*)\}| as ([a-z_]+))\s*(?:--.*)?$", line)
@@ -70,7 +82,7 @@ HEAD = re.compile(r"(?:abbrev |unfoldable )?pub (?:(record|data) )?([A-Za-z_][A-
 
 
 def without_words(lines):
-    """The lines of a file without the comments that docs/DEFINITIONS.md is made of (definitions.py)."""
+    """Returns the lines of a file without the comments that docs/DEFINITIONS.md is made of (definitions.py)."""
     kept, is_in = [], False
     for line in lines:
         is_in = is_in or line.lstrip().startswith("-- ## ")
@@ -108,7 +120,8 @@ class SpecFile:
             while at < len(lines) and lines[at] and not HEAD.match(lines[at]) and not lines[at].startswith("--"):
                 text.append(lines[at])
                 at += 1
-            one = Definition(crate, path, name, comment, text)
+            own = OWN_WORDS.get((crate, name))
+            one = Definition(crate, path, name, [f"-- {own}"] if own else comment, text)
             comment = []
             self.definitions[name] = one
             if head.group(1) == "data":
@@ -136,7 +149,7 @@ class Sources:
         return self.files[key]
 
     def rust(self, crate, module, name):
-        """A type or a constant of the code, as it stands there."""
+        """Returns a type or a constant of the code, as it stands there."""
         key = (crate, module, name)
         if key in self.types:
             return self.types[key]
@@ -165,7 +178,7 @@ class Sources:
         return None
 
     def resolve(self, module, name):
-        """The definition that a name of a module is; none where it isn't the repository's own."""
+        """Returns the definition that a name of a module is; none where it isn't the repository's own."""
         crate, _, rest = module.partition(".specs.")
         if not crate.startswith("roam"):
             return None
@@ -187,7 +200,7 @@ class Sources:
 
 
 def words_of(text, variants):
-    """The names in a definition's text, each with the module before its dot, if there is one. What is bound
+    """Returns the names in a definition's text, each with the module before its dot, if there is one. What is bound
     on the left of an equation, or is a field, isn't a use."""
     found = []
     equations, now = [], []
@@ -229,7 +242,7 @@ def words_of(text, variants):
 
 
 def uses_of(sources, one):
-    """The definitions that a definition uses, in order of their first use."""
+    """Returns the definitions that a definition uses, in order of their first use."""
     uses = []
     if one.path.startswith("src/"):
         lines = lines_of(one.crate, one.path)
@@ -274,7 +287,7 @@ def uses_of(sources, one):
 
 
 def rust_anywhere(sources, crate, name):
-    """A type of a crate, whichever of its files it stands in."""
+    """Returns a type of a crate, whichever of its files it stands in."""
     folder = os.path.join(ROOT, "crates", crate, "src")
     for base, _, names in sorted(os.walk(folder)):
         for file in sorted(names):
@@ -287,7 +300,7 @@ def rust_anywhere(sources, crate, name):
 
 
 def clause_of(lines, name):
-    """A clause of `run`, with the comment above it."""
+    """Returns a clause of `run`, with the comment above it."""
     for at, line in enumerate(lines):
         if line.startswith("    ensures %s {" % name):
             text = [line]
@@ -303,7 +316,7 @@ def clause_of(lines, name):
 
 
 def roots_of(sources, lines, clause):
-    """The definitions that a clause names."""
+    """Returns the definitions that a clause names."""
     names = {}
     for line in lines:
         found = re.match(r"ghost use Rattle\.([A-Za-z0-9_.]+)\.\{(.*)\};", line)
@@ -321,17 +334,17 @@ def roots_of(sources, lines, clause):
 
 
 def key_of(one):
-    """Where a definition stands."""
+    """Returns where a definition stands."""
     return one.crate, one.path, one.name
 
 
 def is_function(one):
-    """Whether a definition is a function, and not data, a record, a type or a constant."""
+    """Says whether a definition is a function, and not data, a record, a type or a constant."""
     return one.path.startswith("specs/") and not re.match(r"(?:abbrev |unfoldable )?pub (record|data) ", one.text[0])
 
 
 def head_of(one):
-    """A function's name and type, without what it answers."""
+    """Returns a function's name and type, without what it answers."""
     text = [one.text[0]]
     for line in one.text[1:]:
         if line.startswith(one.name + " "):
@@ -341,7 +354,7 @@ def head_of(one):
 
 
 def with_fields(one, fields):
-    """A record with these fields alone."""
+    """Returns a record with these fields alone."""
     kept = [line for line in one.text if not (found := re.match(r"  pub ([a-z_]+) :", line)) or found.group(1) in fields]
     return Definition(one.crate, one.path, one.name, one.comment, kept + ["  -- (further fields: not read in this chapter)"])
 
@@ -354,7 +367,7 @@ class Chapter:
         self.order, self.closed, self.types, self.laws = [], [], [], []
 
     def words(self):
-        """How many words it has to read, with comments."""
+        """Returns how many words it has to read, with comments."""
         shown = [line for one in self.order for line in one.comment + one.text]
         shown += [line for one in self.closed for line in one.comment + head_of(one)]
         return sum(len(line.split()) for line in shown)
@@ -392,7 +405,7 @@ class Book:
         return [it for it in uses_of(self.sources, law) if it is not one]
 
     def read(self, title, says, roots, is_open, types=frozenset(), parts=None):
-        """A chapter: these definitions, and all that they use, where `is_open` opens it. Closed are these types, and of those in parts
+        """Returns a chapter: these definitions, and all that they use, where `is_open` opens it. Closed are these types, and of those in parts
         all fields but the named ones."""
         chapter = Chapter(title, says)
         queue, parts = list(roots), parts or {}
@@ -420,12 +433,12 @@ class Book:
         return chapter
 
     def closed_of(self, crates):
-        """What is closed of these crates."""
+        """Returns what is closed of these crates."""
         return [one for one in self.closed.values() if one.crate in crates]
 
 
 def in_order(sources, book):
-    """The functions that laws tie, and what they use that isn't in a chapter yet."""
+    """Returns the functions that laws tie, and what they use that isn't in a chapter yet."""
     order, queue = [], list(book.appendix)
     while queue:
         one = queue.pop(0)
@@ -437,7 +450,7 @@ def in_order(sources, book):
 
 
 def unread_fields(chapters):
-    """The fields of records that nothing in the chapters reads, by record."""
+    """Returns the fields of records that nothing in the chapters reads, by record."""
     every = [one for chapter in chapters for one in chapter.order]
     text = "\n".join(re.sub(r"--.*$", "", line) for one in every for line in one.text)
     unread = {}

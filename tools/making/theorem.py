@@ -27,8 +27,8 @@ INTRODUCTION = """<!-- Made by tools/pages.py from the sources: change those. --
 
 # The theorem, with each definition under it
 
-Chapter 1 is the headline, for one sitting. Chapter 2 says whose a lost event is, chapter 3 what ties these words to the program. The page
-of all definitions (`docs/DEFINITIONS.md`, which `make pages` writes) opens what they leave closed.
+Chapter 1 is the headline, for one sitting. Chapter 2 says which realm misses a lost event, chapter 3 ties these words to the program. The
+page of all definitions (`docs/DEFINITIONS.md`, which `make pages` writes) opens the closed ones.
 
 **The written broker** is the specification: functions on lists and records, in these definitions, which nobody runs. `run` is the
 program's call that gives a list of events to a broker. The proof compares the two.
@@ -43,7 +43,7 @@ state only. So isolation of the *written* broker is nearly its shape. The work i
 entries of all realms in shared tables, under shared locks, and each of its steps is proved to give the written answer (chapter 3,
 `Stepper::step`, clause `answer`).
 
-**Not said**: that few events are lost, and when anything happens.
+**Not said**: how few events are lost, and when anything happens.
 
 | chapter | definitions | words |
 |---|---|---|
@@ -63,7 +63,7 @@ say "ours". Left out are values for a place that isn't there ({fillers}).
 
 @functools.cache
 def book():
-    """All chapters: the three of this page, and those of the definitions that these leave closed."""
+    """Returns all chapters: the three of this page, and those of the definitions that these leave closed."""
     sources, lines = Sources(), lines_of(*RUN)
     read = Book(sources)
 
@@ -71,10 +71,10 @@ def book():
         return one.name not in BOXES
 
     read.read("Each realm is isolated", "For every list of arrivals and timer events, and for every realm: the packets for that realm are, in order and "
-              "octet for octet, those that the written broker of that one realm sends when it is given that realm's own events only. Of an "
-              "event that was lost for want of memory nothing is sent: `run` names these events, and `kept` leaves them out.",
+              "octet for octet, those that the written broker of that one realm sends when it is given that realm's own events only. An event "
+              "that was lost for want of memory sends nothing: `run` names these events, and `kept` leaves them out.",
               roots_of(sources, lines, clause_of(lines, "isolated_from_start")), is_open, TYPES, PARTS)
-    read.read("Memory: whose a lost event is", "A realm misses an arrival of its own that was lost, and a timer event that was lost while one of its own "
+    read.read("Memory: which realm misses a lost event", "A realm misses an arrival of its own that was lost, and a timer event that was lost while one of its own "
               "entries was due. It misses nothing else: memory that another realm lacked makes no difference to it.",
               roots_of(sources, lines, clause_of(lines, "lost_for_itself")), is_open, MEMORY_TYPES, MEMORY_PARTS)
     bridge = roots_of(sources, lines, clauses(lines, ["given", "lost", "wanted"]))
@@ -140,7 +140,7 @@ def print_definitions(page, chapter):
     for group in in_rows(chapter.order):
         print_group(page, group, {})
     if chapter.closed:
-        page.append("**Closed functions**: whatever these answer, what this chapter says holds.\n")
+        page.append("**Closed functions**: this chapter holds for any answers of these.\n")
         for group in by_file(chapter.closed):
             print_group(page, group, {}, is_closed=True)
     if chapter.types:
@@ -158,7 +158,7 @@ def print_bridge(page, lines):
 
 
 def written():
-    """The page."""
+    """Returns the page."""
     lines, chapters = lines_of(*RUN), book().chapters[:3]
     rows = "\n".join("| %d. %s | %d | %d |" % (number, it.title, it.definitions(), it.words()) for number, it in enumerate(chapters, 1))
     page = [INTRODUCTION.format(rows=rows, fillers=", ".join("`%s`" % it for it in sorted(FILLERS)))]

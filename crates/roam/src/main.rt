@@ -21,7 +21,7 @@ use std::thread::Threads;
 use std::time::Clock;
 use std::{env, thread};
 
-/// The words after the program's name.
+/// Returns the words after the program's name.
 fn words<R: Env + AllocGlobal>(rt: &R) -> Result<Vec<String>, Fault<'static>> {
     let args = env::args(rt).map_err(|error| Fault::Usage.unless_memory(&error))?;
     args.skip(1).collect(rt.alloc()).map_err(|_| Fault::Memory)

@@ -33,7 +33,7 @@ impl Address {
         ip: IpAddr::V4(Ipv4Addr::LOCALHOST),
     };
 
-    /// The address `ip`, where it is one here.
+    /// Makes the address `ip`. Returns `None` where `ip` is an IPv6 address that is mapped from an IPv4 address.
     pub fn new(ip: IpAddr) -> Option<Address>
         ensures { MatchOption result (IsMapped ip) (λ a. (ip_of a ≡ ip) × (¬ (IsMapped ip))) }
     {
@@ -46,7 +46,7 @@ impl Address {
         }
     }
 
-    /// The IPv4 address of these octets.
+    /// Makes the IPv4 address of these octets.
     pub fn from_ipv4_octets(octets: [u8; 4]) -> Address
         ensures { IsV4And (ip_of result) (λ a. ipv4_octets a ≡ octets) }
     {
@@ -55,7 +55,8 @@ impl Address {
         }
     }
 
-    /// The address that a text states: four decimal numbers joined by dots, or any form of RFC 4291, section 2.2.
+    /// Reads the address that a text states: four decimal numbers joined by dots, or any form of RFC 4291, section
+    /// 2.2.
     pub fn from_text(text: &str) -> Option<Address>
         ensures states { Reads IsAddressText text.now result }
         ensures value { result ≡ address_in text.now }
@@ -66,7 +67,7 @@ impl Address {
         }
     }
 
-    /// The address as the system takes it.
+    /// Returns the address as the system takes it.
     pub fn ip(self) -> IpAddr
         ensures { result ≡ ip_of self }
     {
@@ -80,7 +81,7 @@ impl Address {
         self.ip.is_ipv6()
     }
 
-    /// Its octets, where it is an IPv4 address.
+    /// Returns the address's octets, where it is an IPv4 address.
     pub fn ipv4_octets(self) -> Option<[u8; 4]>
         ensures { result ≡ ipv4_octets_in (ip_of self) }
     {
@@ -90,7 +91,7 @@ impl Address {
         }
     }
 
-    /// Its octets, where it is an IPv6 address.
+    /// Returns the address's octets, where it is an IPv6 address.
     pub fn ipv6_octets(self) -> Option<[u8; 16]>
         ensures { result ≡ ipv6_octets_in (ip_of self) }
     {
@@ -125,7 +126,7 @@ impl Address {
         }
     }
 
-    /// The number that its octets are, the most significant first.
+    /// Returns the number that the address's octets are, the most significant octet first.
     pub fn number(self) -> u128
         ensures value { result ≡ number (ip_of self) }
         ensures below { result < 2 ^ width (ip_of self) }
@@ -140,7 +141,7 @@ impl Address {
 impl Display for Address {
     ghost output = { λ address. Some (address_text address) };
 
-    /// Four decimal numbers, or the form of RFC 5952, section 4, in hexadecimal alone.
+    /// Prints four decimal numbers, or the form of RFC 5952, section 4, with hexadecimal digits only.
     fn fmt<W: Write>(&self, f: &mut Formatter<W>) -> fmt::Result {
         match self.ip {
             IpAddr::V4(ip) => write!(f, "{ip}"),

@@ -26,7 +26,7 @@ fn is_decimal(octets: &[u8]) -> bool
     are_digits(octets)
 }
 
-/// The decimal number that the text is, without leading zeros, where it is from `least` to `most`.
+/// Reads the decimal number that the text is, without leading zeros, where it is from `least` to `most`.
 pub fn decimal(text: &str, least: u64, most: u64) -> Option<u64>
     ensures value { result ≡ decimal_in least most text.now }
     ensures bounds { IfSome result (λ n. (least ≤ n) × (n ≤ most)) }

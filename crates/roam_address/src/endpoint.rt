@@ -25,7 +25,7 @@ impl Endpoint {
     ghost use Rattle.roam_address.specs.Reading.{Reads};
     ghost use Rattle.roam_address.specs.Texts.{endpoint_from, endpoint_in};
 
-    /// An address and a port, if both are there.
+    /// Makes an endpoint of an address and a port, if both are there.
     fn from_parts(ip: Option<Address>, port: Option<u64>) -> Option<Endpoint>
         requires { IfSome port (λ n. n ≤ 65535) }
         ensures { result ≡ endpoint_from ip port }
@@ -49,8 +49,8 @@ impl Endpoint {
         }
     }
 
-    /// The endpoint that a text states: `a.b.c.d:port` or `[address]:port`, the port from 1 to 65535 without leading
-    /// zeros.
+    /// Reads the endpoint that a text states: `a.b.c.d:port` or `[address]:port`, the port from 1 to 65535 without
+    /// leading zeros.
     pub fn from_text(text: &str) -> Option<Endpoint>
         ensures states { Reads IsEndpointText text.now result }
         ensures value { result ≡ endpoint_in text.now }
@@ -59,7 +59,8 @@ impl Endpoint {
         Endpoint::read(text)
     }
 
-    /// The endpoint that the system names so, where its address is one here. A flow label and a zone are left out.
+    /// Makes the endpoint that the system names so, where its address is one here. Leaves a flow label and a zone
+    /// out.
     pub fn from_socket_address(socket: SocketAddr) -> Option<Endpoint>
         ensures { MatchOption result (IsMapped (socket_ip socket))
             (λ e. (ip_of e.ip ≡ socket_ip socket) × (e.port ≡ socket_port socket)) }
@@ -73,7 +74,7 @@ impl Endpoint {
         }
     }
 
-    /// The endpoint as the system takes it.
+    /// Returns the endpoint as the system takes it.
     pub fn socket_address(self) -> SocketAddr
         ensures ip { socket_ip result ≡ ip_of self.ip }
         ensures plain { IsPlainSocket result self.port }
@@ -85,7 +86,7 @@ impl Endpoint {
 impl Display for Endpoint {
     ghost output = { λ endpoint. Some (endpoint_text endpoint) };
 
-    /// The address and the port, as a configuration states them.
+    /// Prints the address and the port, as a configuration states them.
     fn fmt<W: Write>(&self, f: &mut Formatter<W>) -> fmt::Result {
         let ip = self.ip;
         let port = self.port;

@@ -5,7 +5,7 @@ ghost use Rattle.roam_address.specs.Reading.{Reads};
 
 use crate::Address;
 
-/// An address alone, if it is one of this kind.
+/// Reads a text that is an address and nothing else, if it is one of this kind.
 fn address_of_kind(text: &str, is_ipv6: bool) -> Option<Address>
     ensures { Reads (IsTextOfKind is_ipv6) text.now result }
 {
@@ -21,8 +21,8 @@ fn address_of_kind(text: &str, is_ipv6: bool) -> Option<Address>
     }
 }
 
-/// The address that stands in front of a port: an IPv6 address in brackets (RFC 3986, section 3.2.2), an IPv4 address
-/// without.
+/// Reads the address that stands in front of a port: an IPv6 address in brackets (RFC 3986, section 3.2.2), an IPv4
+/// address without.
 pub(crate) fn host(text: &str) -> Option<Address>
     ensures { Reads IsHostText text.now result }
 {

@@ -15,7 +15,7 @@ pub fn ipv6_text_is_canonical(address: Address)
     ensures { MatchIp (ip_of address) (λ _. ⊤) (λ a. IsCanonicalText (ipv6_segments a) (address_text address)) }
 {}
 
-/// Whatever reads what is printed of an address finds the address.
+/// States that each reader of a printed address finds the address.
 pub fn address_is_read_back(address: Address, read: Option<Address>)
     requires unmapped { ¬ (IsMapped (ip_of address)) }
     requires read { Reads IsAddressText (address_text address) read }
@@ -24,7 +24,7 @@ pub fn address_is_read_back(address: Address, read: Option<Address>)
     address.show_ranges();
 }
 
-/// Two addresses of one text are equal.
+/// States that two addresses with the same text are equal.
 pub fn equal_texts_are_of_equal_addresses(one: Address, other: Address)
     requires { address_text one ≡ address_text other }
     ensures { one ≡ other }
@@ -33,7 +33,7 @@ pub fn equal_texts_are_of_equal_addresses(one: Address, other: Address)
     other.show_ranges();
 }
 
-/// Whatever reads what is printed of an endpoint finds the endpoint.
+/// States that each reader of a printed endpoint finds the endpoint.
 pub fn endpoint_is_read_back(endpoint: Endpoint, read: Option<Endpoint>)
     requires unmapped { ¬ (IsMapped (ip_of endpoint.ip)) }
     requires port { 1 ≤ endpoint.port }
@@ -43,7 +43,7 @@ pub fn endpoint_is_read_back(endpoint: Endpoint, read: Option<Endpoint>)
     endpoint.ip.show_ranges();
 }
 
-/// Whatever reads what is printed of a prefix finds the prefix.
+/// States that each reader of a printed prefix finds the prefix.
 pub fn prefix_is_read_back(prefix: Prefix, read: Option<Prefix>)
     requires unmapped { ¬ (IsMapped (ip_of (network_of prefix))) }
     requires read { Reads IsPrefixText (prefix_text prefix) read }

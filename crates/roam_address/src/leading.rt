@@ -14,7 +14,7 @@ pub struct Leading {
     pub bits: u128,
 }
 
-/// A number without its lowest bits, so many of them.
+/// Returns a number without its lowest `places` bits.
 fn above(number: u128, places: u8) -> u128
     requires { places ≤ 128 }
     ensures { result ≡ number / 2 ^ places }
@@ -39,7 +39,7 @@ impl Leading {
     ghost use Rattle.roam_address.specs.Addresses.{ip_of};
     ghost use Rattle.roam_address.specs.Bits.{width, number, leading};
 
-    /// The leftmost bits of an address, so many of them.
+    /// Returns the leftmost `length` bits of an address.
     pub fn of(address: Address, length: u8) -> Leading
         requires { length ≤ width (ip_of address) }
         ensures { result ≡ leading length (ip_of address) }

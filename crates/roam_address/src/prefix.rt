@@ -28,7 +28,8 @@ impl Prefix {
     ghost use Rattle.roam_address.specs.Same.{is_in};
     ghost use Rattle.roam_address.specs.Texts.{prefix_in};
 
-    /// The prefix of this network and length, where the address has so many bits and no other one isn't zero.
+    /// Makes the prefix of this network and length. Returns `None` where the address has fewer bits, or where a bit
+    /// behind them isn't zero.
     pub fn new(network: Address, length: u8) -> Option<Prefix>
         ensures { MatchOption result
             ((width (ip_of network) < length) ⊎ HasBitBelow network length)
@@ -40,7 +41,7 @@ impl Prefix {
         Some(Prefix { network, length })
     }
 
-    /// The prefix that has one address alone.
+    /// Makes the prefix that has only this address.
     pub fn of(address: Address) -> Prefix
         ensures network { network_of result ≡ address }
         ensures all { length_of result ≡ width (ip_of address) }
@@ -78,8 +79,8 @@ impl Prefix {
         }
     }
 
-    /// The prefix that a text states: an address, or an address, `/` and a number of bits without leading zeros, where
-    /// the bits behind them are zero.
+    /// Reads the prefix that a text states: an address, or an address, `/` and a number of bits without leading
+    /// zeros, where the bits behind them are zero.
     pub fn from_text(text: &str) -> Option<Prefix>
         ensures states { Reads IsPrefixText text.now result }
         ensures value { option_map shown_prefix result ≡ prefix_in text.now }
@@ -87,21 +88,21 @@ impl Prefix {
         Prefix::read(text)
     }
 
-    /// The address whose leftmost bits count.
+    /// Returns the address whose leftmost bits count.
     pub fn network(self) -> Address
         ensures { result ≡ network_of self }
     {
         self.network
     }
 
-    /// For tests: how many bits count.
+    /// For tests. Returns how many bits count.
     pub fn length(self) -> u8
         ensures { result ≡ length_of self }
     {
         self.length
     }
 
-    /// These bits, as a key.
+    /// Returns the bits that count, as a key.
     pub fn leading(self) -> Leading
         ensures { result ≡ leading_of self }
     {
@@ -124,7 +125,7 @@ impl Display for Prefix {
 
     ghost output = { λ prefix. Some (prefix_text prefix) };
 
-    /// The address, and how many of its bits count, where that isn't all.
+    /// Prints the address, and how many of its bits count, where not all of them do.
     fn fmt<W: Write>(&self, f: &mut Formatter<W>) -> fmt::Result {
         let network = self.network;
         let length = self.length;

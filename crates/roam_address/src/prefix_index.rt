@@ -42,7 +42,7 @@ impl<A: Allocator + Copy> PrefixIndex<A> {
     ghost use Rattle.roam_address.specs.Longest.{IsLongestMatch, HasTwice};
     ghost use Rattle.roam_address.specs.Stands.{StandsFor, place_of, marks};
 
-    /// The index of these prefixes; none where two of them are the same.
+    /// Makes the index of these prefixes. Returns `None` where two of them are the same.
     pub fn new(alloc: A, prefixes: &[Prefix]) -> Result<Option<PrefixIndex<A>>, AllocError>
         ensures { IfOk result (λ made. MatchOption made (HasTwice prefixes.now)
             (λ index. StandsFor index prefixes.now × (¬ (HasTwice prefixes.now)))) }
@@ -59,7 +59,7 @@ impl<A: Allocator + Copy> PrefixIndex<A> {
         Ok(Some(PrefixIndex { keys, lengths }))
     }
 
-    /// The place of the prefix that has just the address's leftmost bits, so many of them.
+    /// Finds the place of the prefix that is just the leftmost `length` bits of the address.
     fn place_of(&self, address: Address, length: u8) -> Option<usize>
         requires { length ≤ width (ip_of address) }
         ensures { result ≡ place_of self.now (leading length (ip_of address)) }
@@ -70,8 +70,8 @@ impl<A: Allocator + Copy> PrefixIndex<A> {
         self.keys.get_index_of(&Leading::of(address, length))
     }
 
-    /// The place of the longest prefix that has the address. Each length for which there is a prefix of its kind costs
-    /// one look-up.
+    /// Finds the place of the longest prefix that has the address. Each length for which there is a prefix of its
+    /// kind costs one look-up.
     pub fn longest(&self, address: Address) -> Option<usize>
         ensures { (prefixes : List Prefix) → StandsFor self.now prefixes → IsLongestMatch prefixes address result }
     {
@@ -83,7 +83,8 @@ impl<A: Allocator + Copy> PrefixIndex<A> {
         None
     }
 
-    /// For tests: how many look-ups an address of a kind costs at most: one for each length of which there is a prefix.
+    /// For tests. Counts the look-ups that an address of a kind costs at most: one for each length of which there is
+    /// a prefix.
     pub fn look_ups(&self, of_ipv6: bool) -> usize
         ensures { result ≡ count_marked (marks_of (marks self.now) of_ipv6) }
     {

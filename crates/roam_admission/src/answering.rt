@@ -31,7 +31,7 @@ fn answer_len(request: &View<'_>) -> usize
     38 + proxy_states_len(request)
 }
 
-/// A local answer of this code before it is sealed and signed.
+/// Makes a local answer of this code, before it has its Message-Authenticator and is signed.
 fn unsealed<A: Allocator>(alloc: A, code: u8, request: &View<'_>) -> Result<Vec<u8, A>, Refusal>
     ensures text { IfOk result (λ v. v.items ≡ packet_text (unsealed_answer code request.now)) }
     ensures packet { IfOk result (λ v. IsPacket (unsealed_answer code request.now)) }
@@ -48,11 +48,11 @@ fn unsealed<A: Allocator>(alloc: A, code: u8, request: &View<'_>) -> Result<Vec<
     Ok(packet.finish())
 }
 
-/// A local answer of this code: a Message-Authenticator and the request's Proxy-States, sealed and signed
-/// for the access server with this secret (RFC 3579, section 3.2; RFC 2865, section 3).
+/// Makes a local answer of this code: a Message-Authenticator and the request's Proxy-States, signed for the access
+/// server with this secret (RFC 3579, section 3.2; RFC 2865, section 3).
 ///
-/// Refused in this order: `TooLong` where it would pass 4096 octets, looked at before memory is asked
-/// for; `NoMemory`.
+/// Refused in this order: `TooLong` where it would pass 4096 octets, looked at before memory is asked for;
+/// `NoMemory`.
 fn answer<A: Allocator>(
     alloc: A,
     code: u8,
@@ -73,11 +73,11 @@ fn answer<A: Allocator>(
     Ok(Octets::from_vec(octets))
 }
 
-/// The local reject of an Access-Request: a Message-Authenticator and the request's Proxy-States, sealed
-/// and signed for the access server with this secret (RFC 2865, section 4.3; RFC 3579, section 3.2).
+/// Makes the local reject of an Access-Request: a Message-Authenticator and the request's Proxy-States, signed for
+/// the access server with this secret (RFC 2865, section 4.3; RFC 3579, section 3.2).
 ///
-/// Refused in this order: `TooLong` where it would pass 4096 octets, looked at before memory is asked
-/// for; `NoMemory`.
+/// Refused in this order: `TooLong` where it would pass 4096 octets, looked at before memory is asked for;
+/// `NoMemory`.
 pub fn reject<A: Allocator>(
     alloc: A,
     request: &View<'_>,
@@ -91,7 +91,7 @@ pub fn reject<A: Allocator>(
     answer(alloc, ACCESS_REJECT, request, secret)
 }
 
-/// The code that answers a Status-Server at a place (RFC 5997, section 3).
+/// Returns the code that answers a Status-Server at a place (RFC 5997, section 3).
 pub(crate) fn status_code(at: Place) -> u8
     ensures { result ≡ status_code at }
 {
@@ -151,7 +151,7 @@ fn append_answering_seal<A: Allocator>(out: &mut Vec<u8, A>, request: &View<'_>)
     }
 }
 
-/// The answer to an Accounting-Request before it is sealed and signed.
+/// Makes the answer to an Accounting-Request, before it has its Message-Authenticator and is signed.
 fn unsealed_accounting<A: Allocator>(alloc: A, request: &View<'_>) -> Result<Vec<u8, A>, NoMemory>
     requires sealed { HasAtMostOneMessageAuthenticator request.now }
     ensures text { IfOk result (λ v. v.items ≡ packet_text (unsealed_accounting_answer request.now)) }
@@ -172,9 +172,9 @@ fn unsealed_accounting<A: Allocator>(alloc: A, request: &View<'_>) -> Result<Vec
     Ok(out)
 }
 
-/// The answer to an Accounting-Request that isn't forwarded: an Accounting-Response with a Message-Authenticator
-/// where the request has one, and the request's Proxy-States, sealed and signed for the peer with this secret (RFC
-/// 2866, section 4.2). It is no longer than the request.
+/// Makes the answer to an Accounting-Request that isn't forwarded: an Accounting-Response with a
+/// Message-Authenticator where the request has one, and the request's Proxy-States, signed for the peer with this
+/// secret (RFC 2866, section 4.2). It is no longer than the request.
 pub fn accounting_answer<A: Allocator>(
     alloc: A,
     request: &View<'_>,

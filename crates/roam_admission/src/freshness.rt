@@ -6,7 +6,7 @@ ghost use Rattle.roam_admission.specs.Freshness.{are_near, is_fresh, seconds_in,
 use roam_wire::View;
 use roam_wire::attribute_type::EVENT_TIMESTAMP;
 
-/// The seconds that four octets say, the high one first; others say none.
+/// Reads the seconds that four octets say, the high one first. Returns `None` for fewer or more octets.
 fn seconds_in(value: &[u8]) -> Option<u32>
     ensures { result ≡ seconds_in value.now }
 {

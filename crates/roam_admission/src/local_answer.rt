@@ -44,7 +44,7 @@ pub enum LocalAnswer {
 }
 
 impl LocalAnswer {
-    /// The code of the packet that answers.
+    /// Returns the code of the packet that answers.
     pub fn code(self) -> u8
         ensures { result ≡ causes.code_of self }
     {

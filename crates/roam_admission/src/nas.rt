@@ -15,8 +15,8 @@ pub struct NasName<'a> {
     pub identifier: Option<&'a [u8]>,
 }
 
-/// The access server that a packet names: its first NAS-IP-Address and its first NAS-Identifier. Takes
-/// no memory; two passes over the attributes.
+/// Returns the access server that a packet names: its first NAS-IP-Address and its first NAS-Identifier. Takes no
+/// memory; two passes over the attributes.
 pub fn nas_of<'a>(view: &View<'a>) -> NasName<'a>
     ensures { (
       option_map (λ value. value.now) result.ip_address,

@@ -35,7 +35,7 @@ pub(crate) struct SentPacket<'a, A: Allocator> {
     pub(crate) view: View<'a>,
 }
 
-/// A packet that passed, as the event of a realm, with the realm that it names: its octets are copied,
+/// Makes the event of a realm from a packet that passed, with the realm that the packet names. Copies its octets,
 /// without padding.
 pub(crate) fn job_of<A: Allocator + Copy>(
     packet: &SentPacket<'_, A>,
@@ -57,7 +57,7 @@ pub(crate) fn job_of<A: Allocator + Copy>(
     }))
 }
 
-/// A request of a realm, where the packet that is forwarded for it has at most 4096 octets.
+/// Makes the job of a request for a realm, where the packet that is forwarded for it has at most 4096 octets.
 fn forwarded_for<A: Allocator + Copy>(
     config: &Config,
     packet: &SentPacket<'_, A>,
@@ -73,7 +73,7 @@ fn forwarded_for<A: Allocator + Copy>(
     job_of(packet, realm, names)
 }
 
-/// A request of the realm that it names, if it names one.
+/// Makes the job of a request for the realm that it names, if it names one.
 fn for_named_realm<A: Allocator + Copy>(
     config: &Config,
     packet: &SentPacket<'_, A>,
@@ -88,7 +88,7 @@ fn for_named_realm<A: Allocator + Copy>(
     }
 }
 
-/// The packet of the broker's own that answers a datagram.
+/// Makes the packet of the broker's own that answers a datagram.
 pub(crate) fn answer_to<A: Allocator>(datagram: &Datagram<A>, bytes: Octets<A>) -> Out<A>
     ensures { result ≡ record { realm = None; from = datagram.now.at; to = datagram.now.from; bytes = bytes } }
 {
@@ -100,7 +100,7 @@ pub(crate) fn answer_to<A: Allocator>(datagram: &Datagram<A>, bytes: Octets<A>) 
     }
 }
 
-/// The local reject of an Access-Request for this cause, where it has at most 4096 octets.
+/// Makes the local reject of an Access-Request for this cause, where it has at most 4096 octets.
 fn rejected_for<A: Allocator + Copy>(
     packet: &SentPacket<'_, A>,
     secret: &Secret,
@@ -140,7 +140,7 @@ fn is_asked(config: &Config, side: Side, realm: Option<u16>) -> bool
     }
 }
 
-/// The broker's own answer to an Accounting-Request.
+/// Makes the broker's own answer to an Accounting-Request.
 fn accounting_answered<A: Allocator + Copy>(
     packet: &SentPacket<'_, A>,
     secret: &Secret,
@@ -180,7 +180,7 @@ fn accounted<A: Allocator + Copy>(
     }
 }
 
-/// A request of a home server, for the realm of its place, where it isn't stale.
+/// Makes the job of a request from a home server, for the realm of its place, where it isn't stale.
 fn reversed<A: Allocator + Copy>(
     config: &Config,
     packet: &SentPacket<'_, A>,

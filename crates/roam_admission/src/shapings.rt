@@ -12,7 +12,7 @@ use roam_conf::{Config, Peer, Realm};
 use roam_forward::{Removal, Shaping, fits_shaped, forwarded_len, no_shaping};
 use roam_wire::{MAX_PACKET_LENGTH, View};
 
-/// The value of the Operator-Name that is added to a peer's requests.
+/// Returns the value of the Operator-Name that is added to a peer's requests.
 fn operator_name(peer: &Peer) -> Option<&[u8]>
     ensures name { option_map (λ name. name.now) result ≡ option_map string_bytes peer.now.operator_name }
     ensures short { ForSome (option_map (λ name. name.now) result) (λ name. length name ≤ 253) }
@@ -40,7 +40,8 @@ pub fn request_shaping<'a>(peer: &'a Peer, realm: &'a Realm) -> Shaping<'a>
     }
 }
 
-/// The same, and nothing where an entry isn't there.
+/// Returns what a peer and a realm have done to a request of that peer. Nothing is done to it where one of the two
+/// isn't there.
 fn shaping_between<'a>(peer: Option<&'a Peer>, realm: Option<&'a Realm>) -> Shaping<'a>
     ensures shaping { shown_shaping result ≡ shaping_between (option_map (λ p. shown_peer p.now) peer.entry)
         (option_map (λ r. shown_realm r.now) realm.entry) }
@@ -52,7 +53,7 @@ fn shaping_between<'a>(peer: Option<&'a Peer>, realm: Option<&'a Realm>) -> Shap
     }
 }
 
-/// The peer of an index, where it is configured.
+/// Returns the peer of an index, where it is configured.
 fn peer_at(config: &Config, peer: u16) -> Option<&Peer>
     ensures { option_map (λ p. shown_peer p.now) result ≡ slice_get (shown config.now).peers peer }
 {
@@ -62,7 +63,7 @@ fn peer_at(config: &Config, peer: u16) -> Option<&Peer>
     }
 }
 
-/// The realm of an index, where it is configured.
+/// Returns the realm of an index, where it is configured.
 fn realm_at(config: &Config, realm: u16) -> Option<&Realm>
     ensures { option_map (λ r. shown_realm r.now) result ≡ slice_get (shown config.now).realms realm }
 {

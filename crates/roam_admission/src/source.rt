@@ -22,7 +22,7 @@ use roam_wire::code::{
 };
 use std::alloc::Allocator;
 
-/// A peer as a sender, if it is there.
+/// Returns a peer as a sender, if it is there.
 fn side_of_peer(peer: Option<u16>) -> Option<Side>
     ensures { result ≡ option_map (λ i. Side.Peer i) peer }
 {
@@ -55,7 +55,7 @@ pub(crate) fn sender<A: Allocator>(config: &Config, datagram: &Datagram<A>) -> O
     }
 }
 
-/// The secret shared with a peer.
+/// Returns the secret shared with a peer.
 pub(crate) fn secret_of_peer(config: &Config, peer: u16) -> &Secret
     requires { peer < vec_len config.now.peers }
     ensures text { result.now ≡ peer_secret (shown config.now) peer }
@@ -64,7 +64,8 @@ pub(crate) fn secret_of_peer(config: &Config, peer: u16) -> &Secret
     config.peers[usize::from(peer)].secret()
 }
 
-/// The secret shared with a source of a realm's reverse requests: a home server, or a `coa_client`.
+/// Returns the secret shared with a source of a realm's Disconnect- and CoA-Requests: a home server, or a
+/// `coa_client`.
 pub(crate) fn secret_of_home(config: &Config, realm: u16, server: u8) -> &Secret
     requires { IsHome config.now realm server }
     ensures text { result.now ≡ home_secret (shown config.now) realm server }

@@ -23,9 +23,9 @@ pub fn realm_part(name: &[u8]) -> Option<&[u8]>
     part
 }
 
-/// The index of the realm of a request: of the one that what follows the last `@` of the first User-Name
-/// means, by the names and patterns of the configuration. None where there is no User-Name, no `@` or no
-/// such realm. Takes no memory.
+/// Finds the index of a request's realm. The part behind the last `@` of the first User-Name decides, by the names
+/// and patterns of the configuration. Returns `None` where there is no User-Name, no `@` or no such realm. Takes no
+/// memory.
 pub fn realm_of(config: &Config, view: &View<'_>) -> Option<u16>
     ensures value { result ≡ realm_of (shown config.now) view.now.attributes }
     ensures bound { IfSome result (λ realm. realm < vec_len config.now.realms) }

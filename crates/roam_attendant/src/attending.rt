@@ -66,7 +66,7 @@ impl<'s, 'c, R, H, N: Opened> Attendant<'s, 'c, R, H, N> {
     }
 }
 
-/// An answer with nothing in it.
+/// Makes an answer with nothing in it.
 pub(crate) fn bare(alloc: Global, course: Course) -> Reply {
     plain_reply(course, Vec::new(alloc))
 }
@@ -85,7 +85,7 @@ impl<R: Threads + Wait + Clock + Net + Log + Sync, H: HubCalls<N>, N: Opened> At
     H,
     N,
 > {
-    /// The counts of this thread, which are the timer's too.
+    /// Returns the counts of this thread, which are the timer's too.
     fn counts(&self) -> Option<ThreadCounts<'_>> {
         let shared = self.shared;
         shared
@@ -104,7 +104,7 @@ impl<R: Threads + Wait + Clock + Net + Log + Sync, H: HubCalls<N>, N: Opened> At
         }
     }
 
-    /// The counts, as the page of metrics.
+    /// Answers with the counts, as the page of metrics.
     fn metrics(&self) -> Result<Reply, AllocError> {
         let about = self.shared.office.about(self.now);
         match self.look()? {
@@ -164,7 +164,7 @@ impl<R: Threads + Wait + Clock + Net + Log + Sync, H: HubCalls<N>, N: Opened> At
         }
     }
 
-    /// The configuration that is to follow, which nobody objects to; or why none follows.
+    /// Returns the configuration that is to follow, to which nobody objects, or why none follows.
     fn agreed_of<S: Source>(&self, source: &mut S, is_agreed: bool) -> Result<Following, Reply>
         ensures { IfOk result (λ following. MayFollow N.opening.config (shown following.config)) }
     {
@@ -178,7 +178,8 @@ impl<R: Threads + Wait + Clock + Net + Log + Sync, H: HubCalls<N>, N: Opened> At
         }
     }
 
-    /// The same, with all that the server needs for it, and whether it was agreed to.
+    /// Returns the configuration that is to follow, to which nobody objects, with all that the server needs for it,
+    /// and whether it was agreed to; or why none follows.
     fn next_of<S: Source>(&self, source: &mut S, is_agreed: bool) -> Result<Next, Reply>
         ensures may { IfOk result (λ next. MayFollow N.opening.config (shown next.configured.config)) }
         ensures agreed { IfOk result (λ next. next.is_agreed ≡ is_agreed) }

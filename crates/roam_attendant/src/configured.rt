@@ -55,7 +55,7 @@ impl Drop for Handover {
 }
 
 impl Handover {
-    /// The answer, the configuration of before, and whether who asked still waits.
+    /// Returns the answer, the configuration of before, and whether the one that asked still waits.
     pub fn into_parts(self) -> (Option<Reply>, Option<Configured>, bool) {
         let Self {
             reply,

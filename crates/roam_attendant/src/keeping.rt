@@ -47,7 +47,7 @@ pub struct Dues {
 }
 
 impl Dues {
-    /// All at once.
+    /// Makes dues that all come at once.
     pub fn at_once() -> Dues
         ensures { (result.keeping ≡ 0) × (result.slow ≡ 0) }
     {

@@ -42,7 +42,7 @@ fn loss_at<R: Wait, H: HubCalls<N>, N: Opened>(
     }
 }
 
-/// The peers that have other tables in a configuration that follows.
+/// Lists the peers that have other tables in a configuration that follows.
 fn changed_of<H, N: Opened>(
     shared: &Shared<'_, '_, H, N>,
     next: &Config,
@@ -117,8 +117,8 @@ fn push_line(text: &mut Vec<u8>, name: &str, loss: &Loss, change: &str) -> bool 
     .is_ok()
 }
 
-/// The lines of what would go of the realms of a configuration, by their indexes, which change takes it, and how one
-/// agrees to that, as far as there is memory.
+/// Writes the lines of what would go of the realms of a configuration, by their indexes, which change takes it, and
+/// how one agrees to that, as far as there is memory.
 fn why_not(alloc: Global, config: &Config, next: Option<&Config>, losses: &[Loss]) -> Vec<u8> {
     let mut text = Vec::new(alloc);
     for (index, (realm, loss)) in config.realms.iter().zip(losses.iter()).enumerate() {

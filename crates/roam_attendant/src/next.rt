@@ -58,8 +58,8 @@ fn spare_for(threads: usize, sockets: usize) -> usize {
         .saturating_add(SPARE_BESIDE)
 }
 
-/// The spare memory for the threads of a configuration that follows, which the system gives: as many are tried, in this
-/// memory, while the others run.
+/// Takes the spare memory for the threads of a configuration that follows, which the system gives: as many are tried,
+/// in this memory, while the others run.
 ///
 /// # Errors
 ///
@@ -91,12 +91,12 @@ pub fn widen_all<R: Log>(rt: &R, config: &Config, sockets: &[BoundSocket]) {
     }
 }
 
-/// An answer that says why nothing changes.
+/// Makes an answer that says why nothing changes.
 fn declined(body: Vec<u8>) -> Reply {
     plain_reply(Course::Declined, body)
 }
 
-/// An answer that says so, where there is memory for it.
+/// Makes an answer that says so, where there is memory for it.
 fn declined_with(alloc: Global, words: &[u8]) -> Reply {
     let mut body = Vec::new(alloc);
     let _is_said = body.extend_from_slice(words).is_ok();
@@ -113,8 +113,8 @@ fn is_stopping(alloc: Global) -> Reply {
     declined_with(alloc, b"roam: asked to stop\n")
 }
 
-/// A configuration that follows the one that is served, with its sockets and its counts. Sockets that both want are the
-/// same.
+/// Binds the sockets of a configuration that follows the one that is served, and makes its counts. Sockets that both
+/// want are the same.
 fn bind_next<R: Net + Log, H: HubCalls<N>, N: Opened>(
     rt: &R,
     shared: &Shared<'_, '_, H, N>,

@@ -49,9 +49,17 @@ impl<'p> Overview<'p> {
         }
     }
 
-    /// The place of a server's `acct` among the links of its realm.
+    /// Returns the place of a server's `auth` among the links of its realm, where it has one.
+    fn auth_place(&self, realm: u16, server: u8) -> Option<usize> {
+        let realm = self.config.realms.get(usize::from(realm))?;
+        let _there = realm.servers.get(usize::from(server))?.auth?;
+        Some(usize::from(server))
+    }
+
+    /// Returns the place of its `acct`, where it has one.
     fn acct_place(&self, realm: u16, server: u8) -> Option<usize> {
         let realm = self.config.realms.get(usize::from(realm))?;
+        let _there = realm.servers.get(usize::from(server))?.acct?;
         Some(realm.servers.len().saturating_add(usize::from(server)))
     }
 
@@ -91,13 +99,16 @@ impl Counts for Overview<'_> {
                 Some(gauges.entries.saturating_sub(gauges.in_use) as u64)
             }
             Gauge::Sessions(realm) => Some(self.of(realm)?.sessions as u64),
-            Gauge::AuthInUse(realm, server) => self.in_use(realm, usize::from(server)),
+            Gauge::AuthInUse(realm, server) => self.in_use(realm, self.auth_place(realm, server)?),
             Gauge::AcctInUse(realm, server) => {
                 self.in_use(realm, self.acct_place(realm, server)?)
             }
-            Gauge::AuthRest(realm, server) => self.rest(realm, usize::from(server)),
+            Gauge::AuthRest(realm, server) => self.rest(realm, self.auth_place(realm, server)?),
             Gauge::AcctRest(realm, server) => self.rest(realm, self.acct_place(realm, server)?),
-            Gauge::AuthUnanswered(realm, server) => self.unanswered(realm, usize::from(server)),
+            Gauge::AuthUnanswered(realm, server) => self.unanswered(
+                realm,
+                self.auth_place(realm, server)?,
+            ),
             Gauge::AcctUnanswered(realm, server) => {
                 self.unanswered(realm, self.acct_place(realm, server)?)
             }

@@ -85,7 +85,7 @@ fn write_if_here<R: Wait, H: HubCalls<N>, N: Opened>(
     Ok(())
 }
 
-/// The ledgers of all realms that are here, as a file keeps them.
+/// Writes the session tables of all realms that aren't gone, as a file keeps them.
 pub fn ledgers_of<R: Wait, H: HubCalls<N>, N: Opened>(
     rt: &R,
     shared: &Shared<'_, '_, H, N>,

@@ -42,8 +42,8 @@ pub struct KeepEnd {
 /// The source of the configuration that follows one while it is served, with the answer where none does; and the place
 /// where octets outlast the server.
 pub trait Source {
-    /// The configuration that is to follow this one, and may; or what is said of why there is none, or of why it may
-    /// not.
+    /// Returns the configuration that is to follow this one, and may; or the words that say why there is none, or why
+    /// it may not.
     fn following(&mut self, old: &Config) -> Result<Following, Vec<u8>>
         ensures { IfOk result (λ following. MayFollow (shown old.now) (shown following.config)) };
 

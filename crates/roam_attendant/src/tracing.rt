@@ -31,7 +31,7 @@ impl<R: Threads + Wait + Clock + Net + Log + Sync, H: HubCalls<N>, N: Opened> At
         script_of(alloc, missing, &numbering, steps)
     }
 
-    /// The answer that has these steps of a shard as a script, behind how many are missing before them. Those of a
+    /// Answers with these steps of a shard as a script, behind how many are missing before them. The steps of a
     /// script for which there is no memory are missing from then on.
     fn trace_of(&self, shard: u16, steps: &[Step<Global>]) -> Result<Reply, AllocError> {
         let missing = &self.shared.office.missing;
@@ -53,7 +53,7 @@ impl<R: Threads + Wait + Clock + Net + Log + Sync, H: HubCalls<N>, N: Opened> At
         }
     }
 
-    /// The stored steps of a shard as a script. They are let go of by that.
+    /// Answers with the stored steps of a shard as a script. They are dropped by that.
     pub(crate) fn trace(&mut self, shard: u16) -> Result<Reply, AllocError> {
         match self.shared.hub.let_go(self.rt, &mut self.seat, shard) {
             Ok(steps) => {

@@ -4,9 +4,10 @@
 ghost use Rattle.std.specs.Prelude.{◌≤◌, length, OnOk};
 ghost use Rattle.roam_cli.specs.Printed.{IsPrinted};
 
+use crate::peer_changes::print_peers;
 use crate::realm_changes::print_realm;
-use roam_conf::{Config, Endpoint, NthText, Peer};
-use roam_reload::{Hindrance, PeerKey, peer_difference};
+use roam_conf::{Config, Endpoint, NthText};
+use roam_reload::Hindrance;
 use std::io;
 use std::io::Write;
 
@@ -78,60 +79,6 @@ fn print_endpoints<W: Write>(
     Ok(())
 }
 
-/// Returns what a change of this key takes of a peer.
-fn taken_by(key: PeerKey) -> &'static str {
-    match key {
-        PeerKey::Gone => "loses its requests and sessions",
-        PeerKey::Ip | PeerKey::Secret => "loses its requests, and what waits at its coa",
-        PeerKey::Coa => "loses what waits at its coa",
-        PeerKey::Name
-        | PeerKey::NasIp
-        | PeerKey::NasIpv6
-        | PeerKey::NasId
-        | PeerKey::NasIds
-        | PeerKey::OperatorName
-        | PeerKey::AskCui
-        | PeerKey::RequestWithout
-        | PeerKey::ReplyWithout => "loses nothing",
-    }
-}
-
-/// Prints what becomes of a peer that was there.
-fn print_peer<W: Write>(writer: &mut W, old: &Peer, new: &Peer) -> io::Result<()>
-    ensures { OnOk result (IsPrinted (W.contents writer.old) (W.contents writer.new)) }
-{
-    let Some(key) = peer_difference(old, new) else {
-        return Ok(());
-    };
-    let name = old.name.as_str();
-    let taken = taken_by(key);
-    let key = key.name();
-    writeln!(writer, "peer {name}: {key}: {taken}")
-}
-
-/// Prints what becomes of a peer, or that it is new.
-fn print_peer_since<W: Write>(writer: &mut W, old: Option<&Peer>, new: &Peer) -> io::Result<()>
-    ensures { OnOk result (IsPrinted (W.contents writer.old) (W.contents writer.new)) }
-{
-    match old {
-        Some(before) => print_peer(writer, before, new),
-        None => {
-            let name = new.name.as_str();
-            writeln!(writer, "peer {name}: new")
-        }
-    }
-}
-
-/// Prints what becomes of each peer that isn't as it was.
-fn print_peers<W: Write>(writer: &mut W, old: &[Peer], new: &[Peer]) -> io::Result<()>
-    ensures { OnOk result (IsPrinted (W.contents writer.old) (W.contents writer.new)) }
-{
-    for (index, peer) in new.iter().enumerate() {
-        print_peer_since(writer, old.get(index), peer)?;
-    }
-    Ok(())
-}
-
 /// Prints what becomes of each realm.
 fn print_realms<W: Write>(writer: &mut W, old: &Config, new: &Config) -> io::Result<()>
     ensures { OnOk result (IsPrinted (W.contents writer.old) (W.contents writer.new)) }
@@ -148,6 +95,6 @@ pub fn print_changes<W: Write>(writer: &mut W, old: &Config, new: &Config) -> io
 {
     print_endpoints(writer, "auth", old.auth.as_slice(), new.auth.as_slice())?;
     print_endpoints(writer, "acct", old.acct.as_slice(), new.acct.as_slice())?;
-    print_peers(writer, old.peers.as_slice(), new.peers.as_slice())?;
+    print_peers(writer, old, new)?;
     print_realms(writer, old, new)
 }

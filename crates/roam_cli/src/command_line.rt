@@ -239,7 +239,7 @@ fn of_four_words<'a>(
 }
 
 impl<'a> Command<'a> {
-    /// The command that the words after the program's name ask for, or `None` where they ask for none.
+    /// Returns the command that the words after the program's name ask for, or `None` where they ask for none.
     pub fn from_words<S: AsStr>(words: &'a [S]) -> Option<Command<'a>>
         ensures { MatchOption result (AsksNothing (map S.text words.now))
             (λ c. Asks (map S.text words.now) (shown c)) }

@@ -31,7 +31,7 @@ fn print_realms_after<W: Write>(writer: &mut W, old: &Config, new: &Config) -> i
     writer.flush()
 }
 
-/// The same, with the program's fault.
+/// Prints that a configuration may follow another one, and what becomes of each realm; errs with the program's fault.
 ///
 /// # Errors
 ///
@@ -58,7 +58,7 @@ fn print_why_not<W: Write>(writer: &mut W, hindrance: Hindrance) -> io::Result<(
     writer.flush()
 }
 
-/// The same where realms or peers are more than have a number.
+/// Prints why a configuration may not follow another one where realms or peers are more than have a number.
 fn print_no_room<W: Write>(writer: &mut W) -> io::Result<()>
     ensures { OnOk result (IsPrinted (W.contents writer.old) (W.contents writer.new)) }
 {
@@ -130,7 +130,7 @@ fn print_comparison<'a, W: Write>(
     }
 }
 
-/// The configuration of a file; where it is refused, `lines` say where its fault stands.
+/// Reads the configuration of a file; where it is refused, `lines` say where its fault stands.
 ///
 /// # Errors
 ///

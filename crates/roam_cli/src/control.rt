@@ -102,7 +102,7 @@ fn is_declined(answer: &[u8]) -> bool {
     answer.starts_with(b"HTTP/1.1 409")
 }
 
-/// The length of the body that a line of an answer's head states (RFC 9110, section 8.6).
+/// Reads the length of the body that a line of an answer's head states (RFC 9110, section 8.6).
 fn length_in(line: &str) -> Option<u64> {
     let (name, value) = line.split_once(':')?;
     if name.eq_ignore_ascii_case("content-length") {
@@ -112,7 +112,7 @@ fn length_in(line: &str) -> Option<u64> {
     }
 }
 
-/// The length of the body that an answer's head states, where it does.
+/// Reads the length of the body that an answer's head states, where it does.
 fn stated_length(head: &[u8]) -> Option<u64> {
     for line in str::from_utf8(head).ok()?.split("\r\n") {
         let length = length_in(line);
@@ -131,7 +131,8 @@ pub struct Body<'a> {
     pub is_whole: bool,
 }
 
-/// The body of an answer (RFC 9112, sections 4 and 6). Where the head doesn't state its length, it may be cut.
+/// Returns the body of an answer (RFC 9112, sections 4 and 6). Where the head doesn't state its length, it may be
+/// cut.
 pub fn body_of(answer: &[u8]) -> Option<Body<'_>> {
     let end = answer
         .windows(4)

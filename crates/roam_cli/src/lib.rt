@@ -43,6 +43,7 @@ mod looking;
 mod lost_places;
 mod narrowing;
 mod output;
+mod peer_changes;
 mod questions;
 mod reaching;
 mod realm_changes;

@@ -8,8 +8,8 @@ use std::os::fd::AsRawFd;
 /// The number of times that a look is made again which a signal interrupts.
 const TRIES: u32 = 16;
 
-/// The octet that a read of a socket gives next, and which stays there for it; none at its end, or where none comes
-/// within the time that its reads have.
+/// Returns the octet that a read of a socket gives next, and which stays there for it. Returns `None` at its end, or
+/// where no octet comes within the time that its reads have.
 pub fn next_octet<S: AsRawFd>(socket: &S) -> Option<u8> {
     for _ in 0..TRIES {
         let mut one = [0u8];

@@ -128,16 +128,16 @@ fn print_lost_at<W: Write>(writer: &mut W, name: &str, endpoint: Endpoint) -> io
     writeln!(writer, "realm {name}: loses what waits at {endpoint}")
 }
 
-/// Prints that what waits at a server's accounting is lost, where it has one.
-fn print_lost_account<W: Write>(
+/// Prints that what waits at a server's endpoint of a service is lost, where it has one.
+fn print_lost_service<W: Write>(
     writer: &mut W,
     name: &str,
-    acct: Option<Endpoint>,
+    endpoint: Option<Endpoint>,
 ) -> io::Result<()>
     ensures { OnOk result (IsPrinted (W.contents writer.old) (W.contents writer.new)) }
 {
-    match acct {
-        Some(acct) => print_lost_at(writer, name, acct),
+    match endpoint {
+        Some(endpoint) => print_lost_at(writer, name, endpoint),
         None => Ok(()),
     }
 }
@@ -146,8 +146,8 @@ fn print_lost_account<W: Write>(
 fn print_lost_server<W: Write>(writer: &mut W, name: &str, server: &Server) -> io::Result<()>
     ensures { OnOk result (IsPrinted (W.contents writer.old) (W.contents writer.new)) }
 {
-    print_lost_at(writer, name, server.auth)?;
-    print_lost_account(writer, name, server.acct)
+    print_lost_service(writer, name, server.auth)?;
+    print_lost_service(writer, name, server.acct)
 }
 
 /// Prints what is lost at the server of a place, where it isn't the same any more.

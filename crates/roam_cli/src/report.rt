@@ -154,7 +154,7 @@ pub struct ProgramEnd {
 }
 
 impl<'a> Fault<'a> {
-    /// The fault of a configuration that isn't read: it is refused, or memory is wanting.
+    /// Makes the fault of a configuration that isn't read: it is refused, or memory is wanting.
     pub fn of_configuration(path: &'a str, fault: ConfFault) -> Fault<'a>
         ensures memory { fault ≡ ConfFault.Memory → result ≡ Fault.Memory }
         ensures refused { ¬ (fault ≡ ConfFault.Memory) → result ≡ Fault.Refused path.entry fault }
@@ -165,7 +165,7 @@ impl<'a> Fault<'a> {
         }
     }
 
-    /// The fault of the program that a server's fault is.
+    /// Makes the fault of the program that a server's fault is.
     pub fn of_server(fault: ServeFault) -> Fault<'a>
         ensures { result ≡ spec.fault_of fault }
     {
@@ -184,7 +184,7 @@ impl<'a> Fault<'a> {
         }
     }
 
-    /// This fault, or want of memory where that is what the system answered.
+    /// Returns this fault, or want of memory where that is what the system answered.
     pub fn unless_memory(self, error: &io::Error) -> Fault<'a>
         ensures { (result ≡ Fault.Memory) ⊎ (result ≡ self.entry) }
     {
@@ -195,7 +195,7 @@ impl<'a> Fault<'a> {
         }
     }
 
-    /// The status with which the program ends.
+    /// Returns the status with which the program ends.
     pub fn status(self) -> u8
         ensures { result ≡ spec.status_of self.entry }
     {

@@ -17,7 +17,7 @@ use std::alloc::Global;
 use std::io::Write;
 use std::rt::Files;
 
-/// The fault of a text that isn't read.
+/// Makes the fault of a text that isn't read.
 fn misread<'a>(path: &'a str, fault: ConfFault) -> Fault<'a>
     ensures { IsUnstated path.now result }
 {
@@ -27,7 +27,7 @@ fn misread<'a>(path: &'a str, fault: ConfFault) -> Fault<'a>
     }
 }
 
-/// The text, where it states this configuration.
+/// Returns the text, where it states this configuration.
 ///
 /// # Errors
 ///
@@ -78,7 +78,7 @@ fn expect_settings<'a>(
     }
 }
 
-/// The text that states the configuration of a file with all its defaults. It was read again, and compared.
+/// Makes the text that states the configuration of a file with all its defaults. It was read again, and compared.
 ///
 /// # Errors
 ///

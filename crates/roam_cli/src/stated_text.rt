@@ -12,7 +12,7 @@ pub(crate) struct StatedText {
 }
 
 impl StatedText {
-    /// No text.
+    /// Makes an empty text.
     pub(crate) fn new(alloc: Global) -> StatedText {
         StatedText {
             text: String::new(alloc),
@@ -50,7 +50,7 @@ impl StatedText {
         self.has_failed |= has_failed;
     }
 
-    /// The text, or none where memory was wanting.
+    /// Returns the text, or `None` where memory was wanting.
     pub(crate) fn unless_failed(self) -> Option<String> {
         if self.has_failed {
             None

@@ -3,8 +3,8 @@
 use crate::basic_string::BasicString;
 use crate::stated_text::StatedText;
 use roam_conf::{
-    Accounting, Address, CoaClient, Config, Endpoint, ExchangeLines, Peer, Realm, RealmPattern,
-    Server,
+    Accounting, Address, CoaClient, Config, Endpoint, ExchangeLines, Peer, Prefix, Realm,
+    RealmPattern, Server,
 };
 use roam_conf_reader::{Settings, StationWord};
 use roam_wire::RemovedAttribute;
@@ -19,6 +19,12 @@ trait Item {
 }
 
 impl Item for Endpoint {
+    fn state(&self, text: &mut StatedText) {
+        text.put("\"", *self, "\"");
+    }
+}
+
+impl Item for Prefix {
     fn state(&self, text: &mut StatedText) {
         text.put("\"", *self, "\"");
     }
@@ -75,6 +81,15 @@ fn state_endpoint(text: &mut StatedText, key: &str, endpoint: &Option<Endpoint>)
 /// States the endpoints of the broker's own sockets of a kind: one as a text, several as an array.
 fn state_endpoints(text: &mut StatedText, key: &str, endpoints: &[Endpoint]) {
     match endpoints {
+        [] => {}
+        [one] => text.put_quoted(key, *one),
+        several => state_items(text, key, several),
+    }
+}
+
+/// States the prefixes of a peer: one as a text, several as an array.
+fn state_prefixes(text: &mut StatedText, key: &str, prefixes: &[Prefix]) {
+    match prefixes {
         [] => {}
         [one] => text.put_quoted(key, *one),
         several => state_items(text, key, several),
@@ -169,7 +184,7 @@ fn state_operator(text: &mut StatedText, value: &Option<String>) {
 /// States a peer.
 fn state_peer(text: &mut StatedText, peer: &Peer) {
     text.put("\n[[peer]]\nname = \"", peer.name.as_str(), "\"\n");
-    text.put_quoted("ip", peer.ip);
+    state_prefixes(text, "ip", peer.ips.as_slice());
     text.put_value("secret", BasicString(peer.secret.as_str()));
     state_endpoint(text, "coa", &peer.coa);
     state_addresses(text, peer);
@@ -205,6 +220,9 @@ fn state_policy(text: &mut StatedText, realm: &Realm) {
     state_number(text, "peer_share", realm.peer_share);
     text.put_value("own_names", realm.own_names);
     text.put_value("conversations", realm.conversations);
+    if realm.by_user {
+        text.put_quoted("balance", "user");
+    }
     text.put_value("own_sessions", realm.own_sessions);
 }
 
@@ -221,7 +239,8 @@ fn state_limits(text: &mut StatedText, realm: &Realm) {
 
 /// States a server.
 fn state_server(text: &mut StatedText, server: &Server) {
-    text.put("\n[[realm.server]]\nauth = \"", server.auth, "\"\n");
+    text.put("\n[[realm.server]]\n", "", "");
+    state_endpoint(text, "auth", &server.auth);
     state_endpoint(text, "acct", &server.acct);
     text.put_value("secret", BasicString(server.secret.as_str()));
     text.put_value("require_seal", server.require_seal);
@@ -265,8 +284,8 @@ fn state(text: &mut StatedText, config: &Config, settings: &Settings) {
     }
 }
 
-/// The text that states a configuration, and how it is served, with every key that has a value; nothing where memory is
-/// wanting. The order of the keys is that of the page on files.
+/// Makes the text that states a configuration, and how it is served, with every key that has a value. Returns `None`
+/// where memory is wanting. The order of the keys is that of the page on files.
 pub fn statement(alloc: Global, config: &Config, settings: &Settings) -> Option<String> {
     let mut text = StatedText::new(alloc);
     state(&mut text, config, settings);

@@ -19,7 +19,7 @@ pub struct TextFile<'a> {
     pub text: String,
 }
 
-/// The number of the line in which an octet stands, from 1.
+/// Returns the number of the line in which an octet stands, from 1.
 fn line_of(octets: &[u8], index: usize) -> u64 {
     match octets.get(..index) {
         Some(before) => lines_in(before).saturating_add(1),
@@ -27,7 +27,7 @@ fn line_of(octets: &[u8], index: usize) -> u64 {
     }
 }
 
-/// The fault of a file that the system doesn't let be read.
+/// Makes the fault of a file that the system doesn't let be read.
 fn unread<'a>(path: &'a str, error: &io::Error) -> Fault<'a>
     ensures { IsUnread path.now result }
 {

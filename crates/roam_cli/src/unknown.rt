@@ -18,7 +18,7 @@ fn is_command_word(word: &str) -> bool
     }
 }
 
-/// The first word.
+/// Returns the first word.
 fn first_word<'a, S: AsStr>(words: &'a [S]) -> Option<&'a str>
     ensures { option_copied result ≡ slice_get (map S.text words.now) 0 }
 {
@@ -28,7 +28,7 @@ fn first_word<'a, S: AsStr>(words: &'a [S]) -> Option<&'a str>
     }
 }
 
-/// The first word, where no command begins with it.
+/// Returns the first word, where no command begins with it.
 pub fn unknown_word<'a, S: AsStr>(words: &'a [S]) -> Option<&'a str>
     ensures { MatchOption result ((word : List ℕ) → ¬ (IsUnknown (map S.text words.now) word))
         (λ word. IsUnknown (map S.text words.now) word.now) }

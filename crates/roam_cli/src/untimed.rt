@@ -43,7 +43,7 @@ fn of_four<'a>(word: &str, option: &str, configuration: &str, last: &'a str) -> 
     }
 }
 
-/// The last word, where the words would ask for a server, but it is no number of milliseconds.
+/// Returns the last word, where the words would ask for a server, but it is no number of milliseconds.
 pub fn untimed_word<'a, S: AsStr>(words: &'a [S]) -> Option<&'a str>
     ensures { MatchOption result ((word : List ℕ) → ¬ (IsUntimed (map S.text words.now) word))
         (λ word. IsUntimed (map S.text words.now) word.now) }

@@ -7,6 +7,7 @@ use Rattle.std.specs.Cmp.{booleans_Decides}
 use Rattle.std.specs.Cmp.Lexicographic.{pointwise}
 use Rattle.std.specs.Option.{option_eq}
 use Rattle.std.specs.String.{string_eq}
+use Rattle.roam_address.specs.Prefixes.{shown_prefix}
 use Rattle.roam_address.specs.Same.{same_address}
 use Rattle.roam_address.proofs.SameLemmas.{address_decides}
 use Rattle.roam_conf.specs.declared.coa_client.CoaClient.{CoaClient}
@@ -19,7 +20,7 @@ use Rattle.roam_conf.proofs.EqualPartsLemmas.{list_decides, whole_list_decides, 
 -- the tests as the derives write them
 abbrev pub server_eq : Server → Server → Bool
 server_eq a b =
-    endpoint_eq a.auth b.auth &&
+    option_eq endpoint_eq a.auth b.auth &&
     (option_eq endpoint_eq a.acct b.acct &&
     (pointwise eqb a.secret b.secret &&
     (beq a.require_seal b.require_seal)))
@@ -33,7 +34,7 @@ abbrev pub peer_eq : Peer → Peer → Bool
 peer_eq a b =
     beq a.gone b.gone &&
     (string_eq a.name b.name &&
-    (prefix_eq a.ip b.ip &&
+    (pointwise prefix_eq a.ips.items b.ips.items &&
     (pointwise eqb a.secret b.secret &&
     (option_eq endpoint_eq a.coa b.coa &&
     (option_eq (pointwise eqb) a.nas_ip b.nas_ip &&
@@ -69,7 +70,7 @@ server_decides a b =
         ),
       ),
     ))
-    (Decides-and _ _ (endpoint_decides a.auth b.auth)
+    (Decides-and _ _ (whole_option_decides endpoint_eq endpoint_decides a.auth b.auth)
     (Decides-and _ _ (whole_option_decides endpoint_eq endpoint_decides a.acct b.acct)
     (Decides-and _ _ (bytes_eq-Decides a.secret b.secret)
     (booleans_Decides a.require_seal b.require_seal))))
@@ -91,7 +92,7 @@ pub peer_decides : (a b : Peer) → Decides (peer_eq a b) (shown_peer a ≡ show
 peer_decides a b =
     let v = shown_peer a in
     let w = shown_peer b in
-    Decides-like {P = (v.gone ≡ w.gone) × ((v.name ≡ w.name) × ((v.ip ≡ w.ip) × ((v.secret ≡ w.secret)
+    Decides-like {P = (v.gone ≡ w.gone) × ((v.name ≡ w.name) × ((v.ips ≡ w.ips) × ((v.secret ≡ w.secret)
     × ((v.coa ≡ w.coa) × ((v.nas_ip ≡ w.nas_ip) × ((v.nas_ipv6 ≡ w.nas_ipv6) × ((v.nas_id ≡ w.nas_id)
     × ((v.nas_ids ≡ w.nas_ids) × ((v.require_seal ≡ w.require_seal)
     × ((v.limit_proxy_state ≡ w.limit_proxy_state) × ((v.operator_name ≡ w.operator_name)
@@ -100,7 +101,7 @@ peer_decides a b =
     (λ p. λ i. record {
       gone = p.0 i;
       name = p.1.0 i;
-      ip = p.1.1.0 i;
+      ips = p.1.1.0 i;
       secret = p.1.1.1.0 i;
       coa = p.1.1.1.1.0 i;
       nas_ip = p.1.1.1.1.1.0 i;
@@ -119,7 +120,7 @@ peer_decides a b =
       (
         ap (λ (x : PeerView). x.name) e,
         (
-          ap (λ (x : PeerView). x.ip) e,
+          ap (λ (x : PeerView). x.ips) e,
           (
             ap (λ (x : PeerView). x.secret) e,
             (
@@ -159,7 +160,7 @@ peer_decides a b =
     ))
     (Decides-and _ _ (booleans_Decides a.gone b.gone)
     (Decides-and _ _ (text_decides a.name b.name)
-    (Decides-and _ _ (prefix_decides a.ip b.ip)
+    (Decides-and _ _ (list_decides prefix_eq shown_prefix prefix_decides a.ips.items b.ips.items)
     (Decides-and _ _ (bytes_eq-Decides a.secret b.secret)
     (Decides-and _ _ (whole_option_decides endpoint_eq endpoint_decides a.coa b.coa)
     (Decides-and _ _ (whole_option_decides (pointwise eqb) bytes_eq-Decides a.nas_ip b.nas_ip)

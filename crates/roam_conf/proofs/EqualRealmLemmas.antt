@@ -31,6 +31,7 @@ realm_eq a b =
     (option_eq eqb a.peer_share b.peer_share &&
     (beq a.own_names b.own_names &&
     (beq a.conversations b.conversations &&
+    (beq a.by_user b.by_user &&
     (beq a.own_sessions b.own_sessions &&
     (pointwise client_eq a.coa_clients.items b.coa_clients.items &&
     (pointwise endpoint_eq a.out.items b.out.items &&
@@ -42,7 +43,7 @@ realm_eq a b =
     (eqb a.max_sessions b.max_sessions &&
     (eqb a.rest b.rest &&
     (eqb a.rest_after b.rest_after &&
-    (pointwise server_eq a.servers.items b.servers.items)))))))))))))))))))))))
+    (pointwise server_eq a.servers.items b.servers.items))))))))))))))))))))))))
 
 abbrev pub config_eq : Config → Config → Bool
 config_eq a b =
@@ -62,10 +63,11 @@ realm_decides a b =
     × ((v.loop_prevention ≡ w.loop_prevention) × ((v.accounting ≡ w.accounting)
     × ((v.request_without ≡ w.request_without) × ((v.reply_without ≡ w.reply_without) × ((v.share ≡ w.share)
     × ((v.peer_share ≡ w.peer_share) × ((v.own_names ≡ w.own_names) × ((v.conversations ≡ w.conversations)
-    × ((v.own_sessions ≡ w.own_sessions) × ((v.coa_clients ≡ w.coa_clients) × ((v.out ≡ w.out)
+    × ((v.by_user ≡ w.by_user) × ((v.own_sessions ≡ w.own_sessions) × ((v.coa_clients ≡ w.coa_clients)
+    × ((v.out ≡ w.out)
     × ((v.reverse ≡ w.reverse) × ((v.tries ≡ w.tries) × ((v.wait ≡ w.wait) × ((v.hold ≡ w.hold)
     × ((v.max_pending ≡ w.max_pending) × ((v.max_sessions ≡ w.max_sessions) × ((v.rest ≡ w.rest)
-    × ((v.rest_after ≡ w.rest_after) × ((v.servers ≡ w.servers))))))))))))))))))))))))} _
+    × ((v.rest_after ≡ w.rest_after) × ((v.servers ≡ w.servers)))))))))))))))))))))))))} _
     (λ p. λ i. record {
       gone = p.0 i;
       name = p.1.0 i;
@@ -79,18 +81,19 @@ realm_decides a b =
       peer_share = p.1.1.1.1.1.1.1.1.1.0 i;
       own_names = p.1.1.1.1.1.1.1.1.1.1.0 i;
       conversations = p.1.1.1.1.1.1.1.1.1.1.1.0 i;
-      own_sessions = p.1.1.1.1.1.1.1.1.1.1.1.1.0 i;
-      coa_clients = p.1.1.1.1.1.1.1.1.1.1.1.1.1.0 i;
-      out = p.1.1.1.1.1.1.1.1.1.1.1.1.1.1.0 i;
-      reverse = p.1.1.1.1.1.1.1.1.1.1.1.1.1.1.1.0 i;
-      tries = p.1.1.1.1.1.1.1.1.1.1.1.1.1.1.1.1.0 i;
-      wait = p.1.1.1.1.1.1.1.1.1.1.1.1.1.1.1.1.1.0 i;
-      hold = p.1.1.1.1.1.1.1.1.1.1.1.1.1.1.1.1.1.1.0 i;
-      max_pending = p.1.1.1.1.1.1.1.1.1.1.1.1.1.1.1.1.1.1.1.0 i;
-      max_sessions = p.1.1.1.1.1.1.1.1.1.1.1.1.1.1.1.1.1.1.1.1.0 i;
-      rest = p.1.1.1.1.1.1.1.1.1.1.1.1.1.1.1.1.1.1.1.1.1.0 i;
-      rest_after = p.1.1.1.1.1.1.1.1.1.1.1.1.1.1.1.1.1.1.1.1.1.1.0 i;
-      servers = p.1.1.1.1.1.1.1.1.1.1.1.1.1.1.1.1.1.1.1.1.1.1.1 i;
+      by_user = p.1.1.1.1.1.1.1.1.1.1.1.1.0 i;
+      own_sessions = p.1.1.1.1.1.1.1.1.1.1.1.1.1.0 i;
+      coa_clients = p.1.1.1.1.1.1.1.1.1.1.1.1.1.1.0 i;
+      out = p.1.1.1.1.1.1.1.1.1.1.1.1.1.1.1.0 i;
+      reverse = p.1.1.1.1.1.1.1.1.1.1.1.1.1.1.1.1.0 i;
+      tries = p.1.1.1.1.1.1.1.1.1.1.1.1.1.1.1.1.1.0 i;
+      wait = p.1.1.1.1.1.1.1.1.1.1.1.1.1.1.1.1.1.1.0 i;
+      hold = p.1.1.1.1.1.1.1.1.1.1.1.1.1.1.1.1.1.1.1.0 i;
+      max_pending = p.1.1.1.1.1.1.1.1.1.1.1.1.1.1.1.1.1.1.1.1.0 i;
+      max_sessions = p.1.1.1.1.1.1.1.1.1.1.1.1.1.1.1.1.1.1.1.1.1.0 i;
+      rest = p.1.1.1.1.1.1.1.1.1.1.1.1.1.1.1.1.1.1.1.1.1.1.0 i;
+      rest_after = p.1.1.1.1.1.1.1.1.1.1.1.1.1.1.1.1.1.1.1.1.1.1.1.0 i;
+      servers = p.1.1.1.1.1.1.1.1.1.1.1.1.1.1.1.1.1.1.1.1.1.1.1.1 i;
     })
     (λ e. (
       ap (λ (x : RealmView). x.gone) e,
@@ -117,28 +120,31 @@ realm_decides a b =
                           (
                             ap (λ (x : RealmView). x.conversations) e,
                             (
-                              ap (λ (x : RealmView). x.own_sessions) e,
+                              ap (λ (x : RealmView). x.by_user) e,
                               (
-                                ap (λ (x : RealmView). x.coa_clients) e,
+                                ap (λ (x : RealmView). x.own_sessions) e,
                                 (
-                                  ap (λ (x : RealmView). x.out) e,
+                                  ap (λ (x : RealmView). x.coa_clients) e,
                                   (
-                                    ap (λ (x : RealmView). x.reverse) e,
+                                    ap (λ (x : RealmView). x.out) e,
                                     (
-                                      ap (λ (x : RealmView). x.tries) e,
+                                      ap (λ (x : RealmView). x.reverse) e,
                                       (
-                                        ap (λ (x : RealmView). x.wait) e,
+                                        ap (λ (x : RealmView). x.tries) e,
                                         (
-                                          ap (λ (x : RealmView). x.hold) e,
+                                          ap (λ (x : RealmView). x.wait) e,
                                           (
-                                            ap (λ (x : RealmView). x.max_pending) e,
+                                            ap (λ (x : RealmView). x.hold) e,
                                             (
-                                              ap (λ (x : RealmView). x.max_sessions) e,
+                                              ap (λ (x : RealmView). x.max_pending) e,
                                               (
-                                                ap (λ (x : RealmView). x.rest) e,
+                                                ap (λ (x : RealmView). x.max_sessions) e,
                                                 (
-                                                  ap (λ (x : RealmView). x.rest_after) e,
-                                                  ap (λ (x : RealmView). x.servers) e,
+                                                  ap (λ (x : RealmView). x.rest) e,
+                                                  (
+                                                    ap (λ (x : RealmView). x.rest_after) e,
+                                                    ap (λ (x : RealmView). x.servers) e,
+                                                  ),
                                                 ),
                                               ),
                                             ),
@@ -174,6 +180,7 @@ realm_decides a b =
     (Decides-and _ _ (whole_option_decides eqb Decides-eqb a.peer_share b.peer_share)
     (Decides-and _ _ (booleans_Decides a.own_names b.own_names)
     (Decides-and _ _ (booleans_Decides a.conversations b.conversations)
+    (Decides-and _ _ (booleans_Decides a.by_user b.by_user)
     (Decides-and _ _ (booleans_Decides a.own_sessions b.own_sessions)
     (Decides-and _ _ (list_decides client_eq shown_client client_decides a.coa_clients.items b.coa_clients.items)
     (Decides-and _ _ (whole_list_decides endpoint_eq endpoint_decides a.out.items b.out.items)
@@ -185,7 +192,7 @@ realm_decides a b =
     (Decides-and _ _ (Decides-eqb a.max_sessions b.max_sessions)
     (Decides-and _ _ (Decides-eqb a.rest b.rest)
     (Decides-and _ _ (Decides-eqb a.rest_after b.rest_after)
-    (list_decides server_eq shown_server server_decides a.servers.items b.servers.items))))))))))))))))))))))))
+    (list_decides server_eq shown_server server_decides a.servers.items b.servers.items)))))))))))))))))))))))))
 
 -- what is always true tells nothing more
 still_decides : {P : Type 0} (b : Bool) → Decides b P → Decides (b && true) P

@@ -56,16 +56,15 @@ first_found test xs i is =
 same_is : (a e : Endpoint) → same_endpoint a e ≡ true → a ≡ e
 same_is a e test = (endpoint_decides a e).0 test
 
-auth_found : (realm : RealmView) (peers : List PeerView) (out : ℕ) (e : Endpoint) (i : ℕ) →
-    first_place (λ server. same_endpoint server.auth e) realm.servers ≡ Some i →
-    end_of peers realm (Auth i out) ≡ Some e
-auth_found realm peers out e i is =
-    let found = first_found (λ (server : ServerView). same_endpoint server.auth e) realm.servers i is in
-    rw found.there (ap (λ x. Some x) (same_is found.element.auth e found.passes))
-
 there_is : (e : Endpoint) (coa : Option Endpoint) → is_there e coa ≡ true → coa ≡ Some e
 there_is e None test = absurd (false≢true test)
 there_is e (Some other) test = ap (λ x. Some x) (same_is other e test)
+
+auth_found : (realm : RealmView) (peers : List PeerView) (out : ℕ) (e : Endpoint) (i : ℕ) →
+    first_place (λ server. is_there e server.auth) realm.servers ≡ Some i → end_of peers realm (Auth i out) ≡ Some e
+auth_found realm peers out e i is =
+    let found = first_found (λ (server : ServerView). is_there e server.auth) realm.servers i is in
+    rw found.there (there_is e found.element.auth found.passes)
 
 acct_found : (realm : RealmView) (peers : List PeerView) (out : ℕ) (e : Endpoint) (i : ℕ) →
     first_place (λ server. is_there e server.acct) realm.servers ≡ Some i → end_of peers realm (Acct i out) ≡ Some e
@@ -80,7 +79,7 @@ coa_found realm peers out e i is =
     rw found.there (there_is e found.element.coa found.passes)
 
 found_by : (realm : RealmView) (peers : List PeerView) (out : ℕ) (e : Endpoint) (a b c : Option ℕ) →
-    first_place (λ server. same_endpoint server.auth e) realm.servers ≡ a →
+    first_place (λ server. is_there e server.auth) realm.servers ≡ a →
     first_place (λ server. is_there e server.acct) realm.servers ≡ b → first_place (is_coa e) peers ≡ c →
     (link : Link) → option_or (option_map (λ i. Auth i out) a)
     (option_or (option_map (λ i. Acct i out) b) (option_map (λ i. Coa i out) c)) ≡ Some link →

@@ -11,11 +11,11 @@ use Rattle.roam_conf.specs.declared.place.Link.TheVariants.{Auth, Acct, Coa}
 use Rattle.roam_conf.specs.declared.realm.Realm.{Realm}
 use Rattle.roam_conf.specs.Parts.{shown_realm}
 use Rattle.roam_conf.specs.Config.{ServerView, CoaClientView, PeerView, RealmView, ConfigView}
-use Rattle.roam_conf.specs.Duplicates.{has_pair, same_endpoint, is_among, server_endpoints, coa_endpoints, some_server_at, same_client, has_pair_of_servers, has_duplicate_server, has_duplicate_link}
+use Rattle.roam_conf.specs.Duplicates.{has_pair, same_endpoint, is_among, is_there_among, server_endpoints, coa_endpoints, some_server_at, same_client, has_pair_of_servers, has_duplicate_server, has_duplicate_link}
 use Rattle.roam_conf.specs.Lookup.{end_at, end_of, endpoint_of, link_at, out_of, is_there, is_coa, first_place, link_in, endpoint_in_realm, IsLinkIn, server_with_ip, client_with_ip, home_with_ip, reverse_home, home_in, homes, homes_in}
 use Rattle.roam_conf.specs.Ways.{same_kind, is_way, by_way}
 use Rattle.roam_conf.proofs.LinkLemmas.{end_found, out_found, link_in_found}
-use Rattle.roam_conf.proofs.OneServerLemmas.{same_itself, among_more, among_first, once_more, once_first, option_source, then_source, part_of, part_apart, auth_part, one_server}
+use Rattle.roam_conf.proofs.OneServerLemmas.{same_itself, among_more, among_first, once_more, once_first, then_source, part_of, part_apart, one_server}
 
 -- an element of a list of which none passes a test doesn't pass it
 pub none_passes : {X : Type 0} (test : X → Bool) (xs : List X) (i : ℕ) (x : X) → list_any test xs ≡ false →
@@ -69,29 +69,27 @@ server_no_coa : (peers : List PeerView) (servers : List ServerView) (k : Bool) (
     option_and_then (λ p. p.coa) (slice_get peers j) ≡ Some e → ⊥
 server_no_coa peers servers k i j e once p q =
     let source = then_source (part_of k) (slice_get servers i) e p in
-    let apart = none_passes (λ (server : ServerView). is_among (coa_endpoints peers) server.auth || option_map_or
-    (is_among (coa_endpoints peers)) server.acct false) servers i source.0 once.apart source.1 in
+    let apart = none_passes (λ (server : ServerView). is_there_among (coa_endpoints peers) server.auth
+    || is_there_among (coa_endpoints peers) server.acct) servers i source.0 once.apart source.1 in
     false≢true (sym (part_apart (coa_endpoints peers) k source.0 e source.2 apart) ∙ coa_among peers j e q)
 
 -- two links of a realm with one endpoint, by one `out`, are one link
 one_link : (peers : List PeerView) (realm : RealmView) (e : Endpoint) (a b : Link) → StandsOnce peers realm.servers →
     end_of peers realm a ≡ Some e → end_of peers realm b ≡ Some e → out_of a ≡ out_of b → a ≡ b
 one_link peers realm e (Auth i out) (Auth j out') once p q by =
-    ap₂ (λ n o. Auth n o) (one_server realm.servers true true i j e once.of_servers (auth_part realm.servers i e p)
-    (auth_part realm.servers j e q)).0 by
+    ap₂ (λ n o. Auth n o) (one_server realm.servers true true i j e once.of_servers p q).0 by
 one_link peers realm e (Auth i out) (Acct j out') once p q by =
-    absurd (false≢true (sym (one_server realm.servers true false i j e once.of_servers
-    (auth_part realm.servers i e p) q).1))
+    absurd (false≢true (sym (one_server realm.servers true false i j e once.of_servers p q).1))
 one_link peers realm e (Auth i out) (Coa j out') once p q by =
-    absurd (server_no_coa peers realm.servers true i j e once (auth_part realm.servers i e p) q)
+    absurd (server_no_coa peers realm.servers true i j e once p q)
 one_link peers realm e (Acct i out) (Auth j out') once p q by =
-    absurd (false≢true (one_server realm.servers false true i j e once.of_servers p (auth_part realm.servers j e q)).1)
+    absurd (false≢true (one_server realm.servers false true i j e once.of_servers p q).1)
 one_link peers realm e (Acct i out) (Acct j out') once p q by =
     ap₂ (λ n o. Acct n o) (one_server realm.servers false false i j e once.of_servers p q).0 by
 one_link peers realm e (Acct i out) (Coa j out') once p q by =
     absurd (server_no_coa peers realm.servers false i j e once p q)
 one_link peers realm e (Coa i out) (Auth j out') once p q by =
-    absurd (server_no_coa peers realm.servers true j i e once (auth_part realm.servers j e q) p)
+    absurd (server_no_coa peers realm.servers true j i e once q p)
 one_link peers realm e (Coa i out) (Acct j out') once p q by =
     absurd (server_no_coa peers realm.servers false j i e once q p)
 one_link peers realm e (Coa i out) (Coa j out') once p q by =
@@ -132,11 +130,11 @@ peer_at peers i e None at is none = cc
 peer_at peers i e (Some p) at is none = place_exists (is_coa e) 0 peers i p at (coa_is e p.coa is) none
 
 none_at : (peers : List PeerView) (realm : RealmView) (e : Endpoint) (link : Link) →
-    end_of peers realm link ≡ Some e → first_place (λ server. same_endpoint server.auth e) realm.servers ≡ None
+    end_of peers realm link ≡ Some e → first_place (λ server. is_there e server.auth) realm.servers ≡ None
     → first_place (λ server. is_there e server.acct) realm.servers ≡ None → first_place (is_coa e) peers ≡ None → ⊥
 none_at peers realm e (Auth i out) is p q r =
-    let source = option_source (λ (s : ServerView). s.auth) (slice_get realm.servers i) e is in
-    place_exists (λ (server : ServerView). same_endpoint server.auth e) 0 realm.servers i source.0 source.1
+    let source = then_source (λ (s : ServerView). s.auth) (slice_get realm.servers i) e is in
+    place_exists (λ (server : ServerView). is_there e server.auth) 0 realm.servers i source.0 source.1
     (rw source.2 (same_itself e)) p
 none_at peers realm e (Acct i out) is p q r =
     let source = then_source (λ (s : ServerView). s.acct) (slice_get realm.servers i) e is in
@@ -146,7 +144,7 @@ none_at peers realm e (Coa i out) is p q r = peer_at peers i e (slice_get peers 
 
 some_link : (peers : List PeerView) (realm : RealmView) (out : ℕ) (e : Endpoint) (link : Link) →
     end_of peers realm link ≡ Some e → (a b c : Option ℕ) →
-    first_place (λ server. same_endpoint server.auth e) realm.servers ≡ a →
+    first_place (λ server. is_there e server.auth) realm.servers ≡ a →
     first_place (λ server. is_there e server.acct) realm.servers ≡ b → first_place (is_coa e) peers ≡ c → (l : Link)
     × (option_or (option_map (λ i. Auth i out) a)
     (option_or (option_map (λ i. Acct i out) b) (option_map (λ i. Coa i out) c)) ≡ Some l)
@@ -214,7 +212,7 @@ link_in_bound config realm out e link is =
     by_link None at link is = cc
     by_link (Some r) at (Auth i k) is =
         let ending = ends_there r.out k e _ is in
-        let source = option_source (λ (s : ServerView). s.auth) (slice_get r.servers i) e ending.0 in
+        let source = then_source (λ (s : ServerView). s.auth) (slice_get r.servers i) e ending.0 in
         rw at (slice_get_within r.servers i source.0 source.1, way_within r.out k e ending.1)
     by_link (Some r) at (Acct i k) is =
         let ending = ends_there r.out k e _ is in

@@ -3,6 +3,7 @@ use Rattle.std.specs.Prelude.{ℕ, ◌&&◌, ◌||◌, not, Bool, true, false, L
 use Rattle.std.specs.List.{list_any}
 use Rattle.std.specs.Option.{option_map_or}
 use Rattle.std.specs.Str.{bytes_eq}
+use Rattle.roam_address.specs.declared.endpoint.Endpoint.{Endpoint}
 use Rattle.roam_address.specs.Prefixes.{PrefixView}
 use Rattle.roam_address.specs.Same.{is_in}
 use Rattle.roam_conf.specs.Config.{ServerView, PeerView, RealmView, ConfigView}
@@ -17,21 +18,30 @@ is_listed (Some names) name = list_any (bytes_eq name) names
 abbrev pub is_peer_of : RealmView → PeerView → Bool
 is_peer_of realm peer = is_listed realm.peers peer.name
 
+-- the endpoint is there, at an address of the prefix
+abbrev pub is_there_in : PrefixView → Option Endpoint → Bool
+is_there_in prefix endpoint = option_map_or (λ e. is_in e.ip prefix) endpoint false
+
 -- the prefix has the address of one of the server's endpoints, `auth` or `acct`
 abbrev pub is_server_in : PrefixView → ServerView → Bool
-is_server_in prefix server = is_in server.auth.ip prefix || option_map_or (λ e. is_in e.ip prefix) server.acct false
+is_server_in prefix server = is_there_in prefix server.auth || is_there_in prefix server.acct
 
--- one of the realm's servers is at an address of the peer
+-- one of these servers has an address in the prefix
+abbrev pub some_server_in : List ServerView → PrefixView → Bool
+some_server_in servers prefix = list_any (is_server_in prefix) servers
+
+-- one of the realm's servers is at an address of the peer, by any of the peer's prefixes
 abbrev pub is_at_server : RealmView → PeerView → Bool
-is_at_server realm peer = list_any (is_server_in peer.ip) realm.servers
+is_at_server realm peer = list_any (some_server_in realm.servers) peer.ips
 
 -- ## Who may ask whom
--- A realm takes Access-Requests and Accounting-Requests of a peer unless it has `peers` and the peer's name isn't
--- among them, or it has `loop_prevention` and one of its servers is at an address of the peer. A reverse request goes
--- to no peer that isn't among `peers`, and to none whose `coa` is of another kind, IPv4 or IPv6, than the realm's
--- `out`.
+-- A realm takes Access-Requests and Accounting-Requests of a peer unless it has `peers` and the peer's name isn't among
+-- them, or it has `loop_prevention` and one of its servers is at an address of the peer, whichever of the peer's
+-- addresses the request came from. A reverse request goes to no peer that isn't among `peers`, and to none whose `coa`
+-- is of another kind, IPv4 or IPv6, than the realm's `out`.
 -- Source: ours
--- Rules out: a realm without `peers` that takes none; a request that is sent back to where it came from
+-- Rules out: a realm without `peers` that takes none; a request that is sent back to where it came from, or to another
+-- address of the peer that sent it
 -- Stands in: `roam_conf` `Asking.antt`: `takes`, `is_target_of`; `takes`, `is_target_of`
 --
 -- the realm takes requests of the peer

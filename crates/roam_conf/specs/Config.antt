@@ -6,10 +6,10 @@ use Rattle.roam_address.specs.declared.address.Address.{Address}
 use Rattle.roam_address.specs.declared.endpoint.Endpoint.{Endpoint}
 use Rattle.roam_address.specs.Prefixes.{PrefixView}
 
--- a home server: where it takes Access-Requests, and Accounting-Requests if it does, its shared secret, and whether
--- its answers to Access-Requests need a Message-Authenticator
+-- a home server: where it takes Access-Requests and where Accounting-Requests, if it does, one of the two at least, its
+-- shared secret, and whether its answers to Access-Requests need a Message-Authenticator
 pub record ServerView : Type 0 where
-  pub auth : Endpoint
+  pub auth : Option Endpoint
   pub acct : Option Endpoint
   pub secret : List ℕ
   pub require_seal : Bool
@@ -19,14 +19,15 @@ pub record CoaClientView : Type 0 where
   pub ip : Address
   pub secret : List ℕ
 
--- an access server, or the proxy of a visited network, or all at the addresses of a prefix: how it is known and named,
--- what its Access-Requests need, what is added to its requests, and what is taken out of them and of what is sent to
--- it; or one that went from the file while it was served, which nothing means any more. Its `operator_name` is the
--- value of an Operator-Name: the octet of its namespace, and the name behind it (RFC 5580, section 4.1)
+-- an access server, or the proxy of a visited network, or all at the addresses of some prefixes, whose order says
+-- nothing: how it is known and named, what its Access-Requests need, what is added to its requests, and what is taken
+-- out of them and of what is sent to it; or one that went from the file while it was served, which nothing means any
+-- more. Its `operator_name` is the value of an Operator-Name: the octet of its namespace, and the name behind it (RFC
+-- 5580, section 4.1)
 pub record PeerView : Type 0 where
   pub gone : Bool
   pub name : List ℕ
-  pub ip : PrefixView
+  pub ips : List PrefixView
   pub secret : List ℕ
   pub coa : Option Endpoint
   pub nas_ip : Option (List ℕ)
@@ -48,7 +49,8 @@ pub data PatternView : Type 0 where
 
 -- a realm with the names of the peers that may ask it (where not all may), what becomes of its accounting, what is
 -- taken out of its requests and replies, its shares of names and of peers, which names its replies may have, whether
--- conversations stay at their server, whether reverse requests name one of its own sessions, from where these come
+-- conversations stay at their server, whether the user decides with which server a request's targets begin, whether
+-- reverse requests name one of its own sessions, from where these come
 -- beside its servers, its own sockets (those for reverse requests where it takes them), its limits, and its servers in
 -- the order of their use; or one that went from the file while it was served: it has no sockets, and nothing is for it
 pub record RealmView : Type 0 where
@@ -64,6 +66,7 @@ pub record RealmView : Type 0 where
   pub peer_share : Option ℕ
   pub own_names : Bool
   pub conversations : Bool
+  pub by_user : Bool
   pub own_sessions : Bool
   pub coa_clients : List CoaClientView
   pub out : List Endpoint
@@ -86,7 +89,7 @@ pub record RealmView : Type 0 where
 -- named that isn't there.
 -- Source: ours
 -- Rules out: a realm without servers; an empty secret; two realms of one name; a realm whose requests are
--- accounted for at a server that takes none
+-- accounted for while no server takes that
 -- Stands in: `roam_conf` `Config.antt`: `ConfigView`, `Duplicates.antt`, `Ways.antt`, `Asking.antt`:
 -- `has_unknown_peer`; the invariants of `Config`, `Peer`, `Realm`, `Server`
 --

@@ -1,15 +1,14 @@
 -- Look-ups in a configuration. Ours.
-use Rattle.std.specs.Prelude.{◌≡◌, ◌≢◌, ℕ, ◌+◌, ◌<◌, ◌==◌, ◌||◌, ◌&&◌, not, nat_lt, if◌then◌else◌, Bool, false, List, [], ◌∷◌, ◌++◌, filter, length, map, Option, Some, None, option_map, option_and_then, slice_get}
+use Rattle.std.specs.Prelude.{◌≡◌, ◌≢◌, ℕ, ◌+◌, ◌<◌, ◌==◌, ◌||◌, ◌&&◌, not, nat_lt, if◌then◌else◌, Bool, false, List, [], ◌∷◌, ◌++◌, length, map, Option, Some, None, option_map, option_and_then, slice_get}
 use Rattle.std.specs.List.{list_any, position_from}
 use Rattle.std.specs.Option.{option_or, option_map_or}
 use Rattle.roam_address.specs.declared.address.Address.{Address}
 use Rattle.roam_address.specs.declared.endpoint.Endpoint.{Endpoint}
-use Rattle.roam_address.specs.Prefixes.{PrefixView}
 use Rattle.roam_address.specs.Same.{same_address, is_longest}
 use Rattle.roam_conf.specs.declared.place.Link.{Link}
 use Rattle.roam_conf.specs.declared.place.Link.TheVariants.{Auth, Acct, Coa}
 use Rattle.roam_conf.specs.Config.{ServerView, CoaClientView, PeerView, PatternView, whole, suffix, any, RealmView, ConfigView}
-use Rattle.roam_conf.specs.Duplicates.{same_endpoint}
+use Rattle.roam_conf.specs.Duplicates.{is_present, prefixes_present, same_endpoint}
 use Rattle.roam_conf.specs.Patterns.{same_pattern, patterns_of}
 use Rattle.roam_conf.specs.Ways.{is_way, by_way}
 use Rattle.roam_conf.specs.WellFormed.{is_well_formed}
@@ -88,31 +87,30 @@ abbrev pub NoSuffix : (List ℕ → Type 0) → ConfigView → List ℕ → Type
 NoSuffix Test config name =
     (ending : List ℕ) → EndsIn name ending → Test ending → owner_with config (suffix ending) ≡ None
 
--- the addresses of a peer; whether it is here; the addresses of those that are
-abbrev pub prefix_of : PeerView → PrefixView
-prefix_of peer = peer.ip
-
-abbrev pub is_present : PeerView → Bool
-is_present peer = not peer.gone
-
-abbrev pub prefixes_present : List PeerView → List PrefixView
-prefixes_present peers = map prefix_of (filter is_present peers)
-
--- the peer that is here whose prefix is the longest of those, of peers that are here, that have the address
+-- the peer that is here of whose prefixes one is the longest of all those, of all peers that are here, that have the
+-- address
 unfoldable pub peer_with_ip : List PeerView → Address → Option ℕ
 peer_with_ip peers ip =
-    first_place (λ peer. is_present peer && is_longest (prefixes_present peers) ip peer.ip) peers
+    first_place (λ peer. is_present peer && list_any (is_longest (prefixes_present peers) ip) peer.ips) peers
+
+-- a source at the address is this peer's
+abbrev pub is_source_of : List PeerView → ℕ → Address → Bool
+is_source_of peers peer ip = option_map_or (λ found. found == peer) (peer_with_ip peers ip) false
 
 -- the same at one of the broker's own sockets for requests of peers, by its place in the list of these; nobody where
 -- there is no such socket
 abbrev pub asker_at : List Endpoint → List PeerView → ℕ → Address → Option ℕ
 asker_at own peers place ip = option_and_then (λ here. peer_with_ip peers ip) (slice_get own place)
 
--- the first server, in the order of use, that has the address in its `auth` or its `acct` endpoint
+-- the endpoint is there, and at this address
+abbrev pub has_ip : Address → Option Endpoint → Bool
+has_ip ip endpoint = option_map_or (λ e. same_address e.ip ip) endpoint false
+
+-- the first server, in configured order, that has the address in its `auth` or its `acct` endpoint
 unfoldable pub server_with_ip : List ServerView → Address → Option ℕ
 server_with_ip servers ip =
     first_place
-    (λ server. same_address server.auth.ip ip || option_map_or (λ e. same_address e.ip ip) server.acct false) servers
+    (λ server. has_ip ip server.auth || has_ip ip server.acct) servers
 
 -- the first `coa_client` that has the address
 unfoldable pub client_with_ip : List CoaClientView → Address → Option ℕ
@@ -130,7 +128,7 @@ reverse_home realm place ip = option_and_then (λ own. home_with_ip realm ip) (s
 
 -- where what goes to a server or a peer arrives, where that is configured and takes any
 abbrev pub end_of : List PeerView → RealmView → Link → Option Endpoint
-end_of peers realm (Auth server out) = option_map (λ s. s.auth) (slice_get realm.servers server)
+end_of peers realm (Auth server out) = option_and_then (λ s. s.auth) (slice_get realm.servers server)
 end_of peers realm (Acct server out) = option_and_then (λ s. s.acct) (slice_get realm.servers server)
 end_of peers realm (Coa peer out) = option_and_then (λ p. p.coa) (slice_get peers peer)
 
@@ -165,7 +163,7 @@ acct_or_coa_at peers realm out endpoint =
 
 abbrev pub end_at : List PeerView → RealmView → ℕ → Endpoint → Option Link
 end_at peers realm out endpoint =
-    option_or (option_map (λ i. Auth i out) (first_place (λ server. same_endpoint server.auth endpoint) realm.servers))
+    option_or (option_map (λ i. Auth i out) (first_place (λ server. is_there endpoint server.auth) realm.servers))
     (acct_or_coa_at peers realm out endpoint)
 
 -- it, where the realm has that `out`, and this sends there
@@ -209,14 +207,14 @@ abbrev pub homes_in : ConfigView → ℕ → ℕ
 homes_in config realm = option_map_or homes (slice_get config.realms realm) 0
 
 -- ## Look-ups
--- The realm that a name means; the peer whose prefix is the longest of those that have an address; the link of a realm
+-- The realm that a name means; the peer that has the longest of all prefixes that have an address; the link of a realm
 -- that an endpoint is, by one of the realm's `out`; the first home server of an address, or else the `coa_client`; the
 -- shard of a realm, its index modulo their number. What is found is configured, and each link of a realm is the one
 -- that its endpoint finds at its `out`.
 -- Source: ours
--- Rules out: a shorter prefix that beats a longer; the last server taken for the first; a `coa_client` that takes a
--- server's place; a link past the last server, or past the last `out`; a link that no packet reaches; one that an `out`
--- of the other kind would reach
+-- Rules out: a shorter prefix that beats a longer, also one of another peer; the last server taken for the first; a
+-- `coa_client` that takes a server's place; a link past the last server, or past the last `out`; a link that no packet
+-- reaches; one that an `out` of the other kind would reach
 -- Stands in: `roam_conf` `Lookup.antt`: `IsLinkIn` and others; `realm_index`, `peer_by_ip`, `link_of`,
 -- `home_of`, `shard_of`, the laws `link_of_finds_its_endpoint`, `link_of_finds_each_link`
 --

@@ -28,7 +28,7 @@ abbrev pub shown_peer : Peer → PeerView
 shown_peer peer = record {
   gone = peer.gone;
   name = string_bytes peer.name;
-  ip = shown_prefix peer.ip;
+  ips = map shown_prefix peer.ips.items;
   secret = peer.secret;
   coa = peer.coa;
   nas_ip = peer.nas_ip;
@@ -57,6 +57,7 @@ shown_realm realm = record {
   peer_share = realm.peer_share;
   own_names = realm.own_names;
   conversations = realm.conversations;
+  by_user = realm.by_user;
   own_sessions = realm.own_sessions;
   coa_clients = map shown_client realm.coa_clients.items;
   out = realm.out.items;

@@ -24,9 +24,9 @@ is_reached_at outs endpoint = list_any (λ out. same_kind out endpoint) outs
 abbrev pub is_reached_if_there : List Endpoint → Option Endpoint → Bool
 is_reached_if_there outs endpoint = option_map_or (is_reached_at outs) endpoint true
 
--- the sockets send to all endpoints of the server
+-- the sockets send to all endpoints that the server has
 abbrev pub is_reached : List Endpoint → ServerView → Bool
-is_reached outs server = is_reached_at outs server.auth && is_reached_if_there outs server.acct
+is_reached outs server = is_reached_if_there outs server.auth && is_reached_if_there outs server.acct
 
 -- the socket of this place is there, and sends to the endpoint
 abbrev pub is_way : List Endpoint → ℕ → Endpoint → Bool
@@ -37,7 +37,7 @@ abbrev pub by_way : List Endpoint → ℕ → Endpoint → Option Endpoint
 by_way outs place endpoint = if is_way outs place endpoint then Some endpoint else None
 
 -- ## Ways out
--- Each `auth` and `acct` of a realm's servers is of the same kind, IPv4 or IPv6, as one at least of the realm's `out`.
+-- Each `auth` and `acct` that a realm's servers have is of the same kind, IPv4 or IPv6, as one at least of its `out`.
 -- A peer whose `coa` is of a kind that none of these has is no target of the realm's reverse requests. What goes to an
 -- endpoint leaves from an `out` of its kind.
 -- Source: ours

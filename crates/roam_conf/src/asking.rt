@@ -5,7 +5,7 @@ ghost use Rattle.std.specs.List.{list_any};
 ghost use Rattle.std.specs.Option.{option_map_or};
 ghost use Rattle.roam_address.specs.Prefixes.{shown_prefix};
 ghost use Rattle.roam_address.specs.Same.{is_in};
-ghost use Rattle.roam_conf.specs.Asking.{is_listed, is_peer_of, is_server_in, is_at_server, is_target_of, takes, both_pass};
+ghost use Rattle.roam_conf.specs.Asking.{is_listed, is_peer_of, some_server_in, is_at_server, is_target_of, takes, both_pass};
 ghost use Rattle.roam_conf.specs.Parts.{shown_peer, shown_realm, shown_server};
 
 use crate::{Config, Endpoint, Peer, Prefix, Realm, Server};
@@ -34,10 +34,22 @@ fn is_there_in(prefix: Prefix, endpoint: Option<Endpoint>) -> bool
 
 /// Returns whether one of the servers is at an address of the prefix.
 fn is_some_server_in(prefix: Prefix, servers: &[Server]) -> bool
-    ensures { result ≡ list_any (is_server_in (shown_prefix prefix)) (map shown_server servers.now) }
+    ensures { result ≡ some_server_in (map shown_server servers.now) (shown_prefix prefix) }
 {
     for server in servers {
-        if prefix.has(server.auth.ip) || is_there_in(prefix, server.acct) {
+        if is_there_in(prefix, server.auth) || is_there_in(prefix, server.acct) {
+            return true;
+        }
+    }
+    false
+}
+
+/// Returns whether one of the servers is at an address of one of the prefixes.
+fn is_some_server_in_any(prefixes: &[Prefix], servers: &[Server]) -> bool
+    ensures { result ≡ list_any (some_server_in (map shown_server servers.now)) (map shown_prefix prefixes.now) }
+{
+    for prefix in prefixes {
+        if is_some_server_in(*prefix, servers) {
             return true;
         }
     }
@@ -59,7 +71,7 @@ impl Realm {
     fn is_at_server(&self, peer: &Peer) -> bool
         ensures { result ≡ is_at_server (shown_realm self.now) (shown_peer peer.now) }
     {
-        is_some_server_in(peer.ip, self.servers.as_slice())
+        is_some_server_in_any(peer.ips.as_slice(), self.servers.as_slice())
     }
 
     /// Returns whether the realm takes requests of the peer.
@@ -110,7 +122,7 @@ impl Config {
     ghost use Rattle.roam_conf.specs.Parts.{shown_peer, shown_realm};
     ghost use Rattle.roam_conf.specs.Shown.{shown};
 
-    /// The realm of an index, where it is configured.
+    /// Returns the realm of an index, where it is configured.
     fn realm_at(&self, realm: u16) -> Option<&Realm>
         ensures { option_map (λ r. shown_realm r.now) result ≡ slice_get (shown self.now).realms realm }
     {
@@ -120,7 +132,7 @@ impl Config {
         }
     }
 
-    /// The peer of an index, where it is configured.
+    /// Returns the peer of an index, where it is configured.
     fn peer_at(&self, peer: u16) -> Option<&Peer>
         ensures { option_map (λ p. shown_peer p.now) result ≡ slice_get (shown self.now).peers peer }
     {

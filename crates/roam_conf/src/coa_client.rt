@@ -15,7 +15,7 @@ pub struct CoaClient {
 }
 
 impl CoaClient {
-    /// The shared secret, as packets are sealed with it: 1 to 64 octets.
+    /// Returns the shared secret, in the form in which Message-Authenticators are made with it: 1 to 64 octets.
     pub fn secret(&self) -> &Secret
         ensures text { result.now ≡ self.now.secret }
         ensures at_least_one { 1 ≤ length result.now }

@@ -84,8 +84,8 @@ impl Config {
     ghost use Rattle.roam_conf.specs.Consistent.{IsConsistent};
     ghost use Rattle.roam_conf.specs.Shown.{shown, shown_parts};
 
-    /// The configuration of these parts, in which nothing stands twice that may not, no server is where its realm's
-    /// `out` sends nothing, and no peer is named that isn't there. An error says only that memory was refused.
+    /// Makes the configuration of these parts, in which nothing stands twice that may not, no server is where its
+    /// realm's `out` sends nothing, and each peer that is named is there. An error says only that memory was refused.
     pub fn new(alloc: Global, parts: ConfigParts) -> Result<Config, AllocError>
         requires { IsConsistent (shown_parts parts) }
         ensures { IfOk result (λ config. shown config ≡ shown_parts parts) }
@@ -110,7 +110,7 @@ impl Config {
         })
     }
 
-    /// The parts of a configuration again. Takes no memory.
+    /// Takes a configuration apart into its parts again. Takes no memory.
     pub fn into_parts(self) -> ConfigParts
         ensures { shown_parts result ≡ shown self }
     {

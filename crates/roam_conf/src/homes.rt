@@ -9,7 +9,7 @@ impl Realm {
     ghost use Rattle.roam_conf.specs.Parts.{shown_realm};
     ghost use Rattle.roam_conf.specs.Secrets.{home_secret};
 
-    /// The number of the `coa_client` with the address, behind the servers.
+    /// Returns the number of the `coa_client` with the address. It counts on behind the servers.
     fn client_of(&self, ip: Address) -> Option<u8>
         ensures { result ≡ option_map (λ k. length (shown_realm self.now).servers + k)
             (client_with_ip (shown_realm self.now).coa_clients ip) }
@@ -20,7 +20,7 @@ impl Realm {
         }
     }
 
-    /// The number of the source with the address.
+    /// Returns the number of the source with the address: a server or, behind the servers, a `coa_client`.
     pub fn home_with_ip(&self, ip: Address) -> Option<u8>
         ensures { result ≡ home_with_ip (shown_realm self.now) ip }
     {
@@ -30,7 +30,7 @@ impl Realm {
         }
     }
 
-    /// The number of the source with the address, where the realm has a `reverse` of this place.
+    /// Returns the number of the source with the address, where the realm has a `reverse` of this place.
     pub fn home_of(&self, place: u16, ip: Address) -> Option<u8>
         ensures { result ≡ reverse_home (shown_realm self.now) place ip }
     {
@@ -40,8 +40,8 @@ impl Realm {
         self.home_with_ip(ip)
     }
 
-    /// The secret shared with a source of reverse requests, of 1 to 64 octets: a server by its place or, behind
-    /// the servers, a `coa_client`.
+    /// Returns the secret, of 1 to 64 octets, shared with a source of Disconnect- and CoA-Requests: a server by its
+    /// place or, behind the servers, a `coa_client`.
     pub fn secret_of_home(&self, home: u8) -> &Secret
         requires { home < homes (shown_realm self.now) }
         ensures text { result.now ≡ home_secret (shown_realm self.now) home }

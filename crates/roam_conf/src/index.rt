@@ -12,7 +12,7 @@ use std::hash::{BuildHasherDefault, FoldHasher};
 /// The owner of each key: the index of a realm or of a peer.
 pub(crate) type Index = IndexMap<Vec<u8>, u16, BuildHasherDefault<FoldHasher>, Global>;
 
-/// The owner of a key.
+/// Returns the owner of a key.
 pub(crate) fn owner_of(index: &Index, key: &[u8]) -> Option<u16>
     ensures { result ≡ owner_of (owners index.now) key.now }
 {
@@ -40,7 +40,7 @@ pub(crate) fn note_key(index: &mut Index, key: Vec<u8>, owner: u16) -> Result<()
     Ok(())
 }
 
-/// A copy of these octets.
+/// Makes a copy of these octets.
 pub(crate) fn row_of(alloc: Global, octets: &[u8]) -> Result<Vec<u8>, AllocError>
     ensures { IfOk result (λ row. row.items ≡ octets.now) }
 {

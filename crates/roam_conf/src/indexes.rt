@@ -32,7 +32,7 @@ pub(crate) struct Indexes {
 }
 
 impl Indexes {
-    /// The indexes of these lists.
+    /// Makes the indexes of these lists.
     pub(crate) fn new(
         alloc: Global,
         peers: &[Peer],
@@ -72,7 +72,7 @@ impl ConfigParts {
     ghost use Rattle.roam_conf.specs.PeerIndex.{FindsPeers};
     ghost use Rattle.roam_conf.specs.TargetIndex.{FindsTargets};
 
-    /// The indexes of these parts.
+    /// Makes the indexes of these parts.
     pub(crate) fn indexes(&self, alloc: Global) -> Result<Indexes, AllocError>
         requires distinct { has_duplicate_realm (map shown_realm self.now.realms.items)
             (map shown_pattern self.now.reject.items) ≡ false }

@@ -12,7 +12,8 @@ ghost use Rattle.roam_conf.specs.Targets.{exactly, begins, BeginsWith, peer_with
 
 use crate::{Config, Endpoint, Link};
 
-/// The link that is found for an endpoint at an `out` is one that ends there, and whose packets leave from that `out`.
+/// States that the link that is found for an endpoint at an `out` is one that ends there, and that its packets leave
+/// from that `out`.
 pub fn link_of_finds_its_endpoint(
     config: &Config,
     realm: u16,
@@ -25,7 +26,8 @@ pub fn link_of_finds_its_endpoint(
     ensures leaves { out_of link ≡ out }
 {}
 
-/// Each link of a realm is the one that is found for its endpoint at its `out`, since no two of that `out` end there.
+/// States that each link of a realm is the one that is found for its endpoint at its `out`, since no two of that
+/// `out` end there.
 pub fn link_of_finds_each_link(config: &Config, realm: u16, endpoint: Endpoint, link: Link)
     requires { endpoint_in_realm (shown config.now) realm link ≡ Some endpoint }
     ensures { link_in (shown config.now) realm (out_of link) endpoint ≡ Some link }
@@ -37,7 +39,8 @@ pub fn whole_name_comes_first(config: &Config, name: &[u8], owner: u16)
     ensures { realm_named (shown config.now) name.now ≡ realm_owning (shown config.now) owner }
 {}
 
-/// Of the suffixes that the name ends in, the longest that is anybody's decides, where the name itself is nobody's.
+/// States that of the suffixes in which the name ends, the longest that has an owner decides, where the name itself
+/// has no owner.
 pub fn longest_suffix_comes_next(config: &Config, name: &[u8], ending: &[u8], owner: u16)
     requires unnamed { owner_with (shown config.now) (whole name.now) ≡ None }
     requires fits { may_fit (shown config.now) name.now ≡ true }
@@ -47,7 +50,7 @@ pub fn longest_suffix_comes_next(config: &Config, name: &[u8], ending: &[u8], ow
     ensures { realm_named (shown config.now) name.now ≡ realm_owning (shown config.now) owner }
 {}
 
-/// The realm of any name is the last that counts.
+/// States that the realm of any name comes last.
 pub fn any_name_comes_last(config: &Config, name: &[u8])
     requires some { name.now ≢ [] }
     requires unnamed { owner_with (shown config.now) (whole name.now) ≡ None }
@@ -57,7 +60,7 @@ pub fn any_name_comes_last(config: &Config, name: &[u8])
         ≡ realm_owned (shown config.now) (owner_with (shown config.now) any) }
 {}
 
-/// A name that fits no pattern, as it has to be well formed and isn't, is matched whole.
+/// States that a name that fits no pattern, since it has to be well formed and isn't, is matched whole.
 pub fn ill_formed_names_are_matched_whole(config: &Config, name: &[u8])
     requires { may_fit (shown config.now) name.now ≡ false }
     ensures { realm_named (shown config.now) name.now
@@ -80,7 +83,8 @@ pub fn whole_identifier_comes_first(config: &Config, name: &[u8], peer: u16)
     ensures { peer_meant (shown config.now).peers name.now ≡ Some peer }
 {}
 
-/// Of the patterns that a NAS-Identifier fits, the longest that is anybody's decides, where the whole is nobody's.
+/// States that of the patterns that a NAS-Identifier fits, the longest that a peer has decides, where no peer has the
+/// whole.
 pub fn longest_front_comes_next(config: &Config, name: &[u8], front: &[u8], peer: u16)
     requires unnamed { peer_with_nas (shown config.now).peers (exactly name.now) ≡ None }
     requires begins { BeginsWith name.now front.now }

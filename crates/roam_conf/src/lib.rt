@@ -70,6 +70,7 @@ pub use operators::is_same_operator;
 pub use parts::ConfigParts;
 pub use pattern::RealmPattern;
 pub use peer::Peer;
+pub use peer_index::has_duplicate_prefix;
 pub use peer_names::has_unknown_peer;
 pub use place::{Link, Place};
 pub use realm::Realm;

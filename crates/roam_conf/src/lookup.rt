@@ -12,7 +12,8 @@ impl Realm {
     ghost use Rattle.roam_conf.specs.Lookup.{link_at, end_at, acct_or_coa_at};
     ghost use Rattle.roam_conf.specs.Parts.{shown_peer, shown_realm};
 
-    /// The link that the endpoint is by the `out` of this place, of this realm among these peers.
+    /// Finds the link of this realm that ends at the endpoint, by the `out` of this place, among these peers. Returns
+    /// `None` where the realm has no such `out`, or the `out` doesn't send to the endpoint.
     #[tactic(auto, unfolding(crate::specs::Lookup::link_at))]
     fn link_at(&self, peers: &[Peer], out: u16, endpoint: Endpoint) -> Option<Link>
         requires { length peers.now ≤ 1024 }
@@ -26,7 +27,7 @@ impl Realm {
         }
     }
 
-    /// The same where the `out` is there, and sends to the endpoint.
+    /// Finds the link that ends at the endpoint, by an `out` that is there and sends to the endpoint.
     fn end_at(&self, peers: &[Peer], out: u8, endpoint: Endpoint) -> Option<Link>
         requires { length peers.now ≤ 1024 }
         ensures { result ≡ end_at (map shown_peer peers.now) (shown_realm self.now) out endpoint }
@@ -37,7 +38,7 @@ impl Realm {
         }
     }
 
-    /// The same where the endpoint is no server's `auth`.
+    /// Finds the link that ends at the endpoint, where the endpoint is no server's `auth`.
     fn acct_or_coa_at(&self, peers: &[Peer], out: u8, endpoint: Endpoint) -> Option<Link>
         requires { length peers.now ≤ 1024 }
         ensures { result ≡ acct_or_coa_at (map shown_peer peers.now) (shown_realm self.now) out endpoint }
@@ -49,7 +50,7 @@ impl Realm {
     }
 }
 
-/// The octets from a place on.
+/// Returns the octets from a place on.
 fn from_place(octets: &[u8], place: usize) -> &[u8]
     requires { place ≤ length octets.now }
     ensures { result.now ≡ drop place octets.now }
@@ -66,7 +67,7 @@ impl Config {
     ghost use Rattle.roam_conf.specs.Index.{pattern_key, pattern_seen};
     ghost use Rattle.roam_conf.specs.Lookup.{realm_named, realm_owning, owner_with, may_fit, patterns_for, after_dots};
     ghost use Rattle.roam_conf.specs.Lookup.{further_patterns, first_answer};
-    ghost use Rattle.roam_conf.specs.Lookup.{asker_at, peer_with_ip, link_in, IsLinkIn};
+    ghost use Rattle.roam_conf.specs.Lookup.{asker_at, is_source_of, peer_with_ip, link_in, IsLinkIn};
     ghost use Rattle.roam_conf.specs.Shown.{shown};
 
     /// Returns whose a pattern is; none has a name of more than 253 octets in it.
@@ -143,7 +144,8 @@ impl Config {
         None
     }
 
-    /// The same of a text that no suffix with its dot is longer than.
+    /// Returns the owner of the longest suffix that follows one of the dots of a text, where no suffix with its dot
+    /// is longer than the text.
     fn owner_of_near_suffix(&self, text: &[u8]) -> Option<u16>
         requires { length text.now ≤ 254 }
         ensures { result ≡ first_answer (λ name. owner_with (shown self.now) (suffix name))
@@ -204,7 +206,7 @@ impl Config {
         }
     }
 
-    /// The owner, where it is a realm.
+    /// Returns the owner, where it is a realm.
     fn realm_owning(&self, owner: u16) -> Option<u16>
         ensures value { result ≡ realm_owning (shown self.now) owner }
         ensures bound { IfSome result (λ r. r < vec_len self.now.realms) }
@@ -216,9 +218,9 @@ impl Config {
         }
     }
 
-    /// The index of the realm that a name means, without ASCII case. The first of these that is there decides: the
-    /// name itself, the longest suffix `*.` and a name which it fits, and `*`; a name that has to be well formed and
-    /// isn't fits none of the two. None where that is one to reject.
+    /// Finds the index of the realm that a name means, without ASCII case. The first of these that is there decides:
+    /// the name itself, the longest suffix `*.` and a name which it fits, and `*`; a name that has to be well formed
+    /// and isn't fits none of the two. Returns `None` where the name is one to reject.
     #[tactic(auto, unfolding(crate::specs::Lookup::realm_named))]
     pub fn realm_index(&self, name: &[u8]) -> Option<u16>
         ensures value { result ≡ realm_named (shown self.now) name.now }
@@ -230,7 +232,7 @@ impl Config {
         }
     }
 
-    /// The index of the peer whose prefix is the longest of those, of peers that are here, that have the address.
+    /// Returns the index of the peer that has the longest of all prefixes, of peers that are here, that have the address.
     pub fn peer_by_ip(&self, ip: Address) -> Option<u16>
         ensures value { result ≡ peer_with_ip (shown self.now).peers ip }
         ensures bound { IfSome result (λ p. p < vec_len self.now.peers) }
@@ -238,7 +240,18 @@ impl Config {
         self.found_by.ips.longest(ip)
     }
 
-    /// The index of the peer that asks from an address at the `auth` of this place; none where there is no such `auth`.
+    /// Returns whether a source at an address is this peer's.
+    pub fn is_source_of(&self, peer: u16, ip: Address) -> bool
+        ensures { result ≡ is_source_of (shown self.now).peers peer ip }
+    {
+        match self.peer_by_ip(ip) {
+            Some(found) => found == peer,
+            None => false,
+        }
+    }
+
+    /// Finds the index of the peer that asks from an address at the `auth` of this place. Returns `None` where there
+    /// is no such `auth`.
     pub fn asker_at_auth(&self, place: u16, ip: Address) -> Option<u16>
         ensures value { result ≡ asker_at (shown self.now).auth (shown self.now).peers place ip }
         ensures bound { IfSome result (λ p. p < vec_len self.now.peers) }
@@ -249,7 +262,8 @@ impl Config {
         self.peer_by_ip(ip)
     }
 
-    /// The same at the `acct` of this place.
+    /// Finds the index of the peer that asks from an address at the `acct` of this place. Returns `None` where there
+    /// is no such `acct`.
     pub fn asker_at_acct(&self, place: u16, ip: Address) -> Option<u16>
         ensures value { result ≡ asker_at (shown self.now).acct (shown self.now).peers place ip }
         ensures bound { IfSome result (λ p. p < vec_len self.now.peers) }
@@ -260,8 +274,8 @@ impl Config {
         self.peer_by_ip(ip)
     }
 
-    /// The link of a realm that the endpoint is by the realm's `out` of this place; `None` also where the realm isn't
-    /// configured, or has no such `out`.
+    /// Finds the link of a realm that ends at the endpoint, by the realm's `out` of this place. Returns `None` also
+    /// where the realm isn't configured, or has no such `out`.
     pub fn link_of(&self, realm: u16, out: u16, endpoint: Endpoint) -> Option<Link>
         ensures value { result ≡ link_in (shown self.now) realm out endpoint }
         ensures bound { IfSome result (IsLinkIn (shown self.now) realm) }
@@ -272,7 +286,7 @@ impl Config {
         }
     }
 
-    /// The shard that holds a realm: its index modulo the number of shards.
+    /// Returns the shard that holds a realm: its index modulo the number of shards.
     pub fn shard_of(&self, realm: u16) -> u16
         ensures value { result ≡ realm % self.now.top.shards }
         ensures bound { result < self.now.top.shards }

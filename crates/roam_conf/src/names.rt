@@ -28,7 +28,7 @@ pub(crate) enum PatternRef<'a> {
     Any,
 }
 
-/// A key: a kind, and a name in lower case.
+/// Makes a key: a kind, and a name in lower case.
 fn key_of(alloc: Global, kind: u8, name: &[u8]) -> Result<Vec<u8>, AllocError>
     ensures { IfOk result (λ key. key.items ≡ kind ∷ str_to_ascii_lowercase name.now) }
 {
@@ -40,7 +40,7 @@ fn key_of(alloc: Global, kind: u8, name: &[u8]) -> Result<Vec<u8>, AllocError>
     Ok(key)
 }
 
-/// A text in lower case.
+/// Makes a copy of a text in lower case.
 pub(crate) fn lower_row(alloc: Global, text: &[u8]) -> Result<Vec<u8>, AllocError>
     ensures { IfOk result (λ row. row.items ≡ str_to_ascii_lowercase text.now) }
 {
@@ -51,7 +51,7 @@ pub(crate) fn lower_row(alloc: Global, text: &[u8]) -> Result<Vec<u8>, AllocErro
     Ok(row)
 }
 
-/// The key of a pattern.
+/// Makes the key of a pattern.
 fn pattern_key(alloc: Global, pattern: &RealmPattern) -> Result<Vec<u8>, AllocError>
     ensures { IfOk result (λ key. key.items ≡ pattern_key (shown_pattern pattern.now)) }
 {
@@ -142,7 +142,7 @@ pub(crate) fn note_all(
     Ok(are_new)
 }
 
-/// A key in front of a buffer that has room for it: a kind, and a name in lower case.
+/// Writes a key to the front of a buffer that has room for it: a kind, and a name in lower case.
 fn key_in(buffer: &mut [u8; 254], kind: u8, name: &[u8])
     requires { length name.now ≤ 253 }
     ensures { take (1 + length name.now) buffer.new ≡ kind ∷ str_to_ascii_lowercase name.now }
@@ -153,7 +153,7 @@ fn key_in(buffer: &mut [u8; 254], kind: u8, name: &[u8])
     }
 }
 
-/// A text in lower case, in front of a buffer that has room for it.
+/// Writes a text in lower case to the front of a buffer that has room for it.
 pub(crate) fn lower_in(buffer: &mut [u8; 254], text: &[u8])
     requires { length text.now ≤ 254 }
     ensures { take (length text.now) buffer.new ≡ str_to_ascii_lowercase text.now }
@@ -163,7 +163,7 @@ pub(crate) fn lower_in(buffer: &mut [u8; 254], text: &[u8])
     }
 }
 
-/// The kind and the name of a pattern that is looked for.
+/// Returns the kind and the name of a pattern that is looked for.
 pub(crate) fn kind_and_name(pattern: PatternRef<'_>) -> (u8, &[u8])
     ensures { result.0 ∷ str_to_ascii_lowercase result.1.now ≡ pattern_key (pattern_seen pattern.entry) }
 {
@@ -174,7 +174,7 @@ pub(crate) fn kind_and_name(pattern: PatternRef<'_>) -> (u8, &[u8])
     }
 }
 
-/// The owner of the pattern of this kind and name. Takes no memory.
+/// Finds the owner of the pattern of this kind and name. Takes no memory.
 pub(crate) fn owner_of_pattern(index: &Index, kind: u8, name: &[u8]) -> Option<u16>
     requires { length name.now ≤ 253 }
     ensures { result ≡ owner_of (owners index.now) (kind ∷ str_to_ascii_lowercase name.now) }
@@ -196,7 +196,7 @@ fn mark_suffix(marks: &mut [bool; 254], key: &[u8])
     }
 }
 
-/// The lengths of the suffixes that have an owner.
+/// Marks the lengths of the suffixes that have an owner.
 pub(crate) fn suffix_lengths(index: &Index) -> [bool; 254]
     ensures { AreMarked result (owners index.now) }
 {

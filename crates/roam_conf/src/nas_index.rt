@@ -29,7 +29,7 @@ pub(crate) enum NasRef<'a> {
     Begins(&'a [u8]),
 }
 
-/// The first octets of a text.
+/// Returns the first `count` octets of a text.
 pub(crate) fn front_of(octets: &[u8], count: usize) -> &[u8]
     requires { count ≤ length octets.now }
     ensures { result.now ≡ take count octets.now }
@@ -101,7 +101,7 @@ fn note_peer(index: &mut NasIndex, alloc: Global, peer: &Peer, place: u16) -> Re
     note_texts(index, alloc, peer.nas_ids.as_slice(), place)
 }
 
-/// The first peer of each NAS-Identifier.
+/// Lists the first peer of each NAS-Identifier.
 pub(crate) fn nas_of(alloc: Global, peers: &[Peer]) -> Result<NasIndex, AllocError>
     requires { length peers.now ≤ 2 ^ 16 }
     ensures { IfOk result (λ index. (p : NasPattern)
@@ -127,7 +127,7 @@ fn mark_length(marks: &mut [bool; 254], key: &[u8])
     }
 }
 
-/// The lengths of the fronts that have an owner; those of more than 253 octets aside.
+/// Marks the lengths of the fronts that have an owner, except those of more than 253 octets.
 pub(crate) fn lengths_of(fronts: &Index) -> [bool; 254]
     ensures { AreLengths result (owners fronts.now) }
 {

@@ -33,7 +33,7 @@ pub fn is_same_operator(a: &[u8], b: &[u8]) -> bool
     }
 }
 
-/// The row of octets by which an Operator-Name is found.
+/// Makes the row of octets by which an Operator-Name is found.
 pub(crate) fn operator_row(alloc: Global, value: &[u8]) -> Result<Vec<u8>, AllocError>
     ensures { IfOk result (λ row. row.items ≡ operator_key value.now) }
 {
@@ -44,7 +44,7 @@ pub(crate) fn operator_row(alloc: Global, value: &[u8]) -> Result<Vec<u8>, Alloc
     }
 }
 
-/// The owner of an Operator-Name that means the same. Takes no memory.
+/// Finds the owner of an Operator-Name that means the same. Takes no memory.
 pub(crate) fn owner_of_operator(index: &Index, value: &[u8]) -> Option<u16>
     requires { length value.now ≤ 253 }
     ensures { result ≡ owner_of (owners index.now) (operator_key value.now) }

@@ -10,8 +10,8 @@ use crate::{Endpoint, Prefix, SharedSecret};
 use roam_crypto::Secret;
 use roam_wire::RemovedAttribute;
 
-/// An access server (NAS), or the proxy of a visited network, known by its address, or all that are at the addresses of
-/// a prefix.
+/// An access server (NAS), or the proxy of a visited network, known by its addresses, or all that are at the addresses
+/// of some prefixes.
 #[derive(Drop, PartialEq, Eq)]
 pub struct Peer {
     /// True where it went from the file while that was served: its index stays empty, and nothing means it. A file's
@@ -19,7 +19,8 @@ pub struct Peer {
     pub gone: bool,
     /// 1 to 64 ASCII letters, digits, `.`, `-` and `_`.
     pub name: String,
-    pub ip: Prefix,
+    /// Its addresses: 1 to 8 prefixes. Their order says nothing.
+    pub ips: Vec<Prefix>,
     /// The shared secret: 1 to 64 octets.
     pub secret: SharedSecret,
     /// Takes Disconnect- and CoA-Requests (RFC 5176), where the peer takes them; its port isn't 0.
@@ -48,6 +49,7 @@ pub struct Peer {
     pub reply_without: Vec<RemovedAttribute>,
     ghost name_length: { (1 ≤ length (string_bytes name)) × (length (string_bytes name) ≤ 64) },
     ghost name_letters: { list_all is_peer_letter (string_bytes name) ≡ true },
+    ghost ips_count: { (1 ≤ vec_len ips) × (vec_len ips ≤ 8) },
     ghost secret_length: { (1 ≤ length secret) × (length secret ≤ 64) },
     ghost nas_id_length: { ForSome nas_id
         (λ s. (1 ≤ length (string_bytes s)) × (length (string_bytes s) ≤ 253)) },
@@ -62,7 +64,7 @@ pub struct Peer {
 }
 
 impl Peer {
-    /// The shared secret, as packets are sealed with it: 1 to 64 octets.
+    /// Returns the shared secret, in the form in which Message-Authenticators are made with it: 1 to 64 octets.
     pub fn secret(&self) -> &Secret
         ensures text { result.now ≡ self.now.secret }
         ensures at_least_one { 1 ≤ length result.now }

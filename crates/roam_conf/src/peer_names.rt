@@ -14,7 +14,7 @@ use crate::{Peer, Realm};
 use indexmap::IndexMap;
 use std::alloc::{AllocError, Global};
 
-/// The first peer of each name that is here.
+/// Lists the first peer of each name, without the peers that are gone.
 fn names_of(alloc: Global, peers: &[Peer]) -> Result<Index, AllocError>
     requires { length peers.now ≤ 2 ^ 16 }
     ensures { IfOk result (λ index. (name : List ℕ) → owner_of (owners index) name
@@ -42,7 +42,7 @@ fn has_other(index: &Index, names: &[String]) -> bool
     false
 }
 
-/// The same of the names that a realm states, where it states any.
+/// Returns whether a realm states names, and one of them isn't in the index.
 fn states_other(index: &Index, realm: &Realm) -> bool
     ensures { result
         ≡ option_map_or (list_any (is_unowned (owners index.now))) (shown_realm realm.now).peers false }
@@ -53,7 +53,7 @@ fn states_other(index: &Index, realm: &Realm) -> bool
     }
 }
 
-/// The same of all realms.
+/// Returns whether a realm states a name that isn't in the index.
 fn some_states_other(index: &Index, realms: &[Realm]) -> bool
     ensures { result ≡ list_any
         (λ realm. option_map_or (list_any (is_unowned (owners index.now))) realm.peers false)

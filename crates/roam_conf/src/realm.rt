@@ -1,7 +1,7 @@
 //! A realm: its sockets, its limits and its home servers.
 
 ghost use Rattle.std.specs.Prelude.{◌≤◌, length, map, string_bytes, vec_len, ◌≡◌, false, true, is_some};
-ghost use Rattle.std.specs.List.{list_all};
+ghost use Rattle.std.specs.List.{list_all, list_any};
 ghost use Rattle.std.specs.Option.{ForSome};
 ghost use Rattle.roam_wire.specs.RemovedAttributes.{is_removal_in_requests, is_removal_in_replies};
 ghost use Rattle.roam_conf.specs.Letters.{is_realm_letter};
@@ -41,6 +41,8 @@ pub struct Realm {
     pub own_names: bool,
     /// True where the rounds of a login go to the server that sent its last Access-Challenge.
     pub conversations: bool,
+    /// True where the user of a request decides with which server its targets begin (the key `balance`).
+    pub by_user: bool,
     /// True where a Disconnect- or CoA-Request is forwarded only if it names one session of the realm's own.
     pub own_sessions: bool,
     /// From where reverse requests come beside the realm's servers: at most 8.
@@ -78,7 +80,9 @@ pub struct Realm {
     ghost share_range: { ForSome share (λ n. (1 ≤ n) × (n ≤ 4096)) },
     ghost peer_share_range: { ForSome peer_share (λ n. (1 ≤ n) × (n ≤ 4096)) },
     ghost coa_client_count: { vec_len coa_clients ≤ 8 },
-    ghost accounted: { accounting ≡ Forwarded → list_all (λ (s : Server). is_some s.acct) servers.items ≡ true },
+    ghost asked: { gone ≡ false → list_any (λ (s : Server). is_some s.auth) servers.items ≡ true },
+    ghost accounted: { gone ≡ false → accounting ≡ Forwarded
+        → list_any (λ (s : Server). is_some s.acct) servers.items ≡ true },
     ghost out_count: { (1 ≤ vec_len out) × (vec_len out ≤ 16) },
     ghost reverse_count: { vec_len reverse ≤ 8 },
     ghost ports: { (list_all has_port out.items ≡ true) × (list_all has_port reverse.items ≡ true) },

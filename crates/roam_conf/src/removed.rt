@@ -8,7 +8,7 @@ use crate::cuts::cut_at_dot;
 use crate::decimal;
 use roam_wire::RemovedAttribute;
 
-/// A vendor's number.
+/// Reads a vendor's number.
 fn vendor_of(text: &str) -> Option<u32>
     ensures { result ≡ decimal_in 0 16777215 text.now }
 {
@@ -18,7 +18,7 @@ fn vendor_of(text: &str) -> Option<u32>
     }
 }
 
-/// The number of a Type, or of a vendor's type.
+/// Reads the number of a Type, or of a vendor's type.
 fn kind_of(text: &str) -> Option<u8>
     ensures { result ≡ decimal_in 1 255 text.now }
 {
@@ -28,7 +28,7 @@ fn kind_of(text: &str) -> Option<u8>
     }
 }
 
-/// A type of a vendor.
+/// Reads a type of a vendor.
 fn vendor_kind(vendor: &str, kind: &str) -> Option<RemovedAttribute>
     ensures { result ≡ vendor_kind (decimal_in 0 16777215 vendor.now) (decimal_in 1 255 kind.now) }
 {
@@ -38,7 +38,7 @@ fn vendor_kind(vendor: &str, kind: &str) -> Option<RemovedAttribute>
     }
 }
 
-/// A vendor, or a type of a vendor behind a dot.
+/// Reads a vendor, or a type of a vendor behind a dot.
 #[tactic(auto, using(crate::proofs::TextLemmas::vendor_from_parts))]
 fn vendor_from(text: &str) -> Option<RemovedAttribute>
     ensures { result ≡ vendor_from (parts 46 text.now) }
@@ -52,8 +52,8 @@ fn vendor_from(text: &str) -> Option<RemovedAttribute>
     }
 }
 
-/// The attribute that a text of a list names: a Type, `26.` and a vendor, or these with a dot and a type of the vendor;
-/// numbers are decimal, without leading zeros.
+/// Reads the attribute that a text of a list names: a Type, `26.` and a vendor, or these with a dot and a type of the
+/// vendor. Numbers are decimal, without leading zeros.
 #[tactic(auto, unfolding(crate::specs::Texts::removed_in))]
 pub fn removed_attribute(text: &str) -> Option<RemovedAttribute>
     ensures { result ≡ removed_in text.now }

@@ -28,7 +28,7 @@ impl Model for SharedSecret {
 }
 
 impl SharedSecret {
-    /// The secret of a text.
+    /// Makes the secret of a text.
     pub fn new(alloc: Global, text: &str) -> Result<SharedSecret, AllocError>
         requires { length text.now ≤ 64 }
         ensures { IfOk result (λ secret. secret ≡ text.now) }
@@ -38,14 +38,14 @@ impl SharedSecret {
         Ok(SharedSecret { text, keyed })
     }
 
-    /// The secret's text.
+    /// Returns the secret's text.
     pub fn as_str(&self) -> &str
         ensures { result.now ≡ self.now }
     {
         self.text.as_str()
     }
 
-    /// The secret as packets are sealed with it.
+    /// Returns the secret in the form in which Message-Authenticators are made with it.
     pub fn keyed(&self) -> &Secret
         ensures { result.now ≡ self.now }
     {

@@ -32,7 +32,7 @@ fn note_nas_ip(index: &mut Index, alloc: Global, peer: &Peer, place: u16) -> Res
     }
 }
 
-/// The first peer of each NAS-IP-Address.
+/// Lists the first peer of each NAS-IP-Address.
 fn nas_ips_of(alloc: Global, peers: &[Peer]) -> Result<Index, AllocError>
     requires { length peers.now ≤ 2 ^ 16 }
     ensures { IfOk result (λ index. (ip : List ℕ)
@@ -64,7 +64,7 @@ fn note_nas_ipv6(
     }
 }
 
-/// The first peer of each NAS-IPv6-Address.
+/// Lists the first peer of each NAS-IPv6-Address.
 fn nas_ipv6s_of(alloc: Global, peers: &[Peer]) -> Result<Index, AllocError>
     requires { length peers.now ≤ 2 ^ 16 }
     ensures { IfOk result (λ index. (ip : List ℕ)
@@ -106,7 +106,7 @@ fn note_operator(
     }
 }
 
-/// The first peer of each Operator-Name.
+/// Lists the first peer of each Operator-Name.
 fn operators_of(alloc: Global, peers: &[Peer]) -> Result<Index, AllocError>
     requires { length peers.now ≤ 2 ^ 16 }
     ensures { IfOk result (λ index. (value : List ℕ) → owner_of (owners index) (operator_key value)
@@ -132,7 +132,7 @@ fn some_operator(peers: &[Peer]) -> bool
 }
 
 impl TargetIndex {
-    /// The index of these peers.
+    /// Makes the index of these peers.
     pub(crate) fn new(alloc: Global, peers: &[Peer]) -> Result<TargetIndex, AllocError>
         requires { length peers.now ≤ 1024 }
         ensures { IfOk result (λ index. FindsTargets index (map shown_peer peers.now)) }

@@ -46,8 +46,8 @@ impl Config {
         None
     }
 
-    /// The index of the peer that a NAS-Identifier means: the one among whose `nas_id` and `nas_ids` it stands whole;
-    /// else the one with the longest pattern of `nas_ids` that it fits.
+    /// Finds the index of the peer that a NAS-Identifier means: the one among whose `nas_id` and `nas_ids` it stands
+    /// whole; else the one with the longest pattern of `nas_ids` that it fits.
     #[tactic(auto, unfolding(crate::specs::Targets::peer_meant))]
     pub fn peer_meant(&self, identifier: &[u8]) -> Option<u16>
         ensures value { result ≡ peer_meant (shown self.now).peers identifier.now }
@@ -59,7 +59,7 @@ impl Config {
         }
     }
 
-    /// The index of the peer with this NAS-IP-Address; nobody has one that isn't of four octets.
+    /// Finds the index of the peer with this NAS-IP-Address. No peer has one that isn't of four octets.
     pub fn peer_by_nas_ip(&self, ip: &[u8]) -> Option<u16>
         ensures value { result ≡ peer_with_nas_ip (shown self.now).peers ip.now }
         ensures bound { IfSome result (λ p. p < vec_len self.now.peers) }
@@ -67,7 +67,7 @@ impl Config {
         owner_of(&self.found_by.targets.nas_ips, ip)
     }
 
-    /// The index of the peer with this NAS-IPv6-Address; nobody has one that isn't of sixteen octets.
+    /// Finds the index of the peer with this NAS-IPv6-Address. No peer has one that isn't of sixteen octets.
     pub fn peer_by_nas_ipv6(&self, ip: &[u8]) -> Option<u16>
         ensures value { result ≡ peer_with_nas_ipv6 (shown self.now).peers ip.now }
         ensures bound { IfSome result (λ p. p < vec_len self.now.peers) }
@@ -82,7 +82,8 @@ impl Config {
         self.found_by.targets.some_nas_ipv6
     }
 
-    /// The index of the peer whose Operator-Name means the same as this value. Nobody has one of more than 253 octets.
+    /// Finds the index of the peer whose Operator-Name means the same as this value. No peer has one of more than 253
+    /// octets.
     pub fn peer_by_operator(&self, value: &[u8]) -> Option<u16>
         ensures value { result ≡ peer_with_operator (shown self.now).peers value.now }
         ensures bound { IfSome result (λ p. p < vec_len self.now.peers) }

@@ -46,7 +46,7 @@ fn are_reached(outs: &[Endpoint], servers: &[Server]) -> bool
     ensures { result ≡ list_all (is_reached outs.now) (map shown_server servers.now) }
 {
     for server in servers {
-        if !(is_reached_at(outs, server.auth) && is_reached_if_there(outs, server.acct)) {
+        if !(is_reached_if_there(outs, server.auth) && is_reached_if_there(outs, server.acct)) {
             return false;
         }
     }

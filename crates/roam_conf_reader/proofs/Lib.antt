@@ -5,5 +5,6 @@ pub mod FaultLemmas
 pub mod ItemsLemmas
 pub mod ListLemmas
 pub mod PairLemmas
+pub mod PrefixLemmas
 pub mod RangeLemmas
 pub mod UniqueLemmas

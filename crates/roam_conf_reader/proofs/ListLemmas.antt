@@ -1,10 +1,10 @@
 -- What stands in an array states values that pass a test, at most so many.
-use Rattle.std.proofs.Common.{◌≡◌, ◌≤◌, ℕ, suc, Bool, true, false, cond, List, [], ◌∷◌, ◌&&◌, length, drop, map, codes, Option, Some, None, is_some, option_map, String, Global, string_bytes, refl, sym, ap, subst, ◌∙◌, arith, inl, inr}
+use Rattle.std.proofs.Common.{◌≡◌, ◌≤◌, ℕ, suc, Bool, true, false, cond, List, [], ◌∷◌, ◌&&◌, ◌||◌, length, drop, map, codes, Option, Some, None, is_some, option_map, String, Global, string_bytes, refl, sym, ap, subst, ◌∙◌, arith, inl, inr}
 use Rattle.std.proofs.lemmas.Bool.{and_from, and_parts, cases_Bool, false≢true}
 use Rattle.std.proofs.lemmas.Bool.Decides.{nat_tests}
 use Rattle.std.proofs.lemmas.List.{length-map}
 use Rattle.std.proofs.lemmas.Option.{same_Some, cond_some}
-use Rattle.std.specs.List.{list_all}
+use Rattle.std.specs.List.{list_all, list_any}
 use Rattle.std.specs.Prelude.{nat_le, take}
 use Rattle.std.specs.Str.{bytes_eq}
 use Rattle.std.specs.declared.vec.Vec.{Vec}
@@ -19,7 +19,7 @@ use Rattle.roam_conf.specs.Parts.{shown_names, shown_server}
 use Rattle.roam_conf.specs.Patterns.{is_realm_name, is_pattern, is_reject}
 use Rattle.roam_conf.specs.Texts.{removed_in}
 use Rattle.roam_conf_reader.specs.declared.values.Letters.TheVariants.{Any}
-use Rattle.roam_conf_reader.specs.Document.{StatesEach, StatesTables, StatesServer, StatesRealm, are_accounted}
+use Rattle.roam_conf_reader.specs.Document.{StatesEach, StatesTables, StatesServer, StatesRealm, are_serving, some_auth, some_acct}
 use Rattle.roam_conf_reader.specs.Values.{accounting, array_of, value_at, pattern_in, pattern, each_of, cons_if_both, list_of, passing, rejects, removed, peer_names, text, letters_of, if_there, item_count, text_fits}
 use Rattle.roam_conf_reader.specs.declared.removed.Removals.{Removals}
 use Rattle.roam_conf_reader.specs.declared.removed.Removals.TheVariants.{OfRequests, OfReplies}
@@ -190,22 +190,26 @@ few_names (Some found) copy is v there = by_read (peer_names found) refl is
         same_Some names (shown_names v) (same_Some (Some names) (option_map shown_names copy) h ∙ some) in
         omega (arith, few_names_at found names read, ap length same, length-map v.items string_bytes)
 
--- where accounting is forwarded each server takes it, as it is shown
-pub accounted_shown : (servers : List Server) →
-    list_all (λ (s : ServerView). is_some s.acct) (map shown_server servers)
-    ≡ list_all (λ (s : Server). is_some s.acct) servers
-accounted_shown [] = refl
-accounted_shown (s ∷ ss) = ap (λ b. is_some s.acct && b) (accounted_shown ss)
+-- some server takes Access-Requests, or Accounting-Requests, as it is shown
+pub auth_shown : (servers : List Server) →
+    some_auth (map shown_server servers) ≡ list_any (λ (s : Server). is_some s.auth) servers
+auth_shown [] = refl
+auth_shown (s ∷ ss) = ap (λ b. is_some s.auth || b) (auth_shown ss)
 
--- a table in which some server takes no accounting that is forwarded states no realm
-pub not_accounted : (table : Members) (items : Items) (r : RealmView) (a : Accounting) (servers : List ServerView)
+pub acct_shown : (servers : List Server) →
+    some_acct (map shown_server servers) ≡ list_any (λ (s : Server). is_some s.acct) servers
+acct_shown [] = refl
+acct_shown (s ∷ ss) = ap (λ b. is_some s.acct || b) (acct_shown ss)
+
+-- a table whose servers don't take what is forwarded to them states no realm
+pub not_serving : (table : Members) (items : Items) (r : RealmView) (a : Accounting) (servers : List ServerView)
     → value_at (array_of 8) (codes "server") table ≡ Some items →
     accounting (get_member (codes "accounting") table) ≡ Some a → StatesEach StatesServer items servers →
-    are_accounted a servers ≡ false → StatesRealm table r → ⊥
-not_accounted table items r a servers there said each none stated =
+    are_serving a servers ≡ false → StatesRealm table r → ⊥
+not_serving table items r a servers there said each none stated =
     let same : r.accounting ≡ a = same_Some r.accounting a (sym stated.accounting ∙ said) in
     let ours : StatesEach StatesServer items r.servers =
     subst (λ (o : Option Items). StatesTables StatesServer o r.servers) there stated.servers in
     let all : r.servers ≡ servers = each_unique StatesServer server_unique items r.servers servers ours each in
-    false≢true (sym none ∙ ap (λ x. are_accounted x servers) (sym same) ∙ ap (are_accounted r.accounting) (sym all)
-    ∙ stated.accounted)
+    false≢true (sym none ∙ ap (λ x. are_serving x servers) (sym same) ∙ ap (are_serving r.accounting) (sym all)
+    ∙ stated.services)

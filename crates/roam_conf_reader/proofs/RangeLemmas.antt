@@ -66,10 +66,6 @@ text_at most letters key members octets is =
     option_and_then_some (text most letters) (get_member key members) octets is
     (λ value there states. text_range most letters value octets states)
 
-pub port_at : (key : List ℕ) (members : Members) (e : Endpoint) → value_at endpoint key members ≡ Some e → 1 ≤ e.port
-port_at key members e is =
-    option_and_then_some endpoint (get_member key members) e is (λ value there states. endpoint_range value e states)
-
 pub count_at : (most : ℕ) (key : List ℕ) (members : Members) (items : Items) →
     value_at (array_of most) key members ≡ Some items → (1 ≤ item_count items) × (item_count items ≤ most)
 count_at most key members items is =

@@ -54,7 +54,7 @@ pub peer_unique : (members : Members) (a b : PeerView) → StatesPeer members a 
 peer_unique ms a b p q =
     let gone = p.here ∙ sym q.here in
     let name = same_value _ a.name b.name p.name q.name in
-    let ip = same_value _ a.ip b.ip p.ip q.ip in
+    let ips = same_value _ a.ips b.ips p.ips q.ips in
     let secret = same_value _ a.secret b.secret p.secret q.secret in
     let coa = same_value _ a.coa b.coa p.coa q.coa in
     let nas_ip = same_value _ a.nas_ip b.nas_ip p.nas_ip q.nas_ip in
@@ -71,7 +71,7 @@ peer_unique ms a b p q =
     λ i. record {
       gone = gone i;
       name = name i;
-      ip = ip i;
+      ips = ips i;
       secret = secret i;
       coa = coa i;
       nas_ip = nas_ip i;
@@ -100,6 +100,7 @@ realm_unique ms a b p q =
     let peer_share = same_value _ a.peer_share b.peer_share p.peer_share q.peer_share in
     let own_names = same_value _ a.own_names b.own_names p.own_names q.own_names in
     let conversations = same_value _ a.conversations b.conversations p.conversations q.conversations in
+    let by_user = same_value _ a.by_user b.by_user p.by_user q.by_user in
     let own_sessions = same_value _ a.own_sessions b.own_sessions p.own_sessions q.own_sessions in
     let coa_clients = few_unique StatesClient client_unique 8 _ a.coa_clients b.coa_clients p.coa_clients
     q.coa_clients in
@@ -126,6 +127,7 @@ realm_unique ms a b p q =
       peer_share = peer_share i;
       own_names = own_names i;
       conversations = conversations i;
+      by_user = by_user i;
       own_sessions = own_sessions i;
       coa_clients = coa_clients i;
       out = out i;

@@ -9,15 +9,11 @@ use Rattle.roam_conf.specs.declared.accounting.Accounting.{Accounting}
 use Rattle.roam_conf.specs.declared.accounting.Accounting.TheVariants as kinds
 use Rattle.roam_conf.specs.Config.{ServerView, CoaClientView, PeerView, RealmView, ConfigView}
 use Rattle.roam_conf_reader.specs.Operators.{operator_at}
-use Rattle.roam_conf_reader.specs.Values.{number, letters_of, text, address, ipv4, ipv6, prefix, endpoint, endpoints, endpoints_if_there, seed_or_zeros, flag, exchange_lines, station_word, number_or, pattern, list_of, rejects, removed, nas_ids, peer_names, accounting, array_of, item_count, value_at, optional_at, file_path, socket_path}
+use Rattle.roam_conf_reader.specs.Values.{number, letters_of, text, address, ipv4, ipv6, prefixes, endpoint, endpoints, endpoints_if_there, seed_or_zeros, flag, exchange_lines, station_word, number_or, pattern, list_of, rejects, removed, nas_ids, peer_names, accounting, balance, array_of, item_count, value_at, optional_at, file_path, socket_path}
 
 -- the required keys of the five tables
 abbrev pub server_required : List (List ℕ)
-server_required = codes "auth" ∷ codes "secret" ∷ []
-
--- what such a table needs besides, where the realm's accounting is forwarded
-abbrev pub accounted_required : List (List ℕ)
-accounted_required = codes "acct" ∷ []
+server_required = codes "secret" ∷ []
 
 abbrev pub client_required : List (List ℕ)
 client_required = codes "ip" ∷ codes "secret" ∷ []
@@ -35,7 +31,7 @@ top_required =
 
 -- the keys that they may have besides; a `coa_client` none
 abbrev pub server_optional : List (List ℕ)
-server_optional = codes "acct" ∷ codes "require_seal" ∷ []
+server_optional = codes "auth" ∷ codes "acct" ∷ codes "require_seal" ∷ []
 
 abbrev pub peer_optional : List (List ℕ)
 peer_optional =
@@ -47,7 +43,8 @@ abbrev pub realm_optional : List (List ℕ)
 realm_optional =
     codes "also" ∷ codes "peers" ∷ codes "loop_prevention" ∷ codes "accounting" ∷ codes "request_without"
     ∷ codes "reply_without" ∷ codes "share" ∷ codes "peer_share" ∷ codes "own_names" ∷ codes "conversations"
-    ∷ codes "own_sessions" ∷ codes "coa_client" ∷ codes "reverse" ∷ codes "tries" ∷ codes "wait" ∷ codes "hold"
+    ∷ codes "balance" ∷ codes "own_sessions" ∷ codes "coa_client" ∷ codes "reverse" ∷ codes "tries" ∷ codes "wait"
+    ∷ codes "hold"
     ∷ codes "max_pending" ∷ codes "max_sessions" ∷ codes "rest" ∷ codes "rest_after" ∷ []
 
 abbrev pub top_optional : List (List ℕ)
@@ -78,10 +75,15 @@ abbrev pub StatesTables : {V : Type 0} → (Members → V → Type 0) → Option
 StatesTables States None values = ⊥
 StatesTables States (Some items) values = StatesEach States items values
 
+-- a server takes requests of one service at least
+abbrev pub serves : ServerView → Bool
+serves server = is_some server.auth || is_some server.acct
+
 -- a table of the array `server` of a realm
 pub record StatesServer (members : Members) (server : ServerView) : Type 0 where
-  pub auth : value_at endpoint (codes "auth") members ≡ Some server.auth
+  pub auth : optional_at endpoint (codes "auth") members ≡ Some server.auth
   pub acct : optional_at endpoint (codes "acct") members ≡ Some server.acct
+  pub service : serves server ≡ true
   pub secret : value_at (text 64 (letters_of Any)) (codes "secret") members ≡ Some server.secret
   pub require_seal : flag (get_member (codes "require_seal") members) ≡ Some server.require_seal
   pub no_other_key : has_only server_required server_optional members ≡ true
@@ -102,7 +104,7 @@ pub record StatesClient (members : Members) (client : CoaClientView) : Type 0 wh
 pub record StatesPeer (members : Members) (peer : PeerView) : Type 0 where
   pub here : peer.gone ≡ false
   pub name : value_at (text 64 (letters_of PeerName)) (codes "name") members ≡ Some peer.name
-  pub ip : value_at prefix (codes "ip") members ≡ Some peer.ip
+  pub ips : value_at prefixes (codes "ip") members ≡ Some peer.ips
   pub secret : value_at (text 64 (letters_of Any)) (codes "secret") members ≡ Some peer.secret
   pub coa : optional_at endpoint (codes "coa") members ≡ Some peer.coa
   pub nas_ip : optional_at ipv4 (codes "nas_ip") members ≡ Some peer.nas_ip
@@ -126,13 +128,17 @@ abbrev pub sessions_unless_said : Option Data → ℕ
 sessions_unless_said None = 0
 sessions_unless_said (Some reverse) = 20000
 
--- where the realm's accounting is forwarded, each of its servers takes it
-abbrev pub are_accounted : Accounting → List ServerView → Bool
-are_accounted kinds.Forwarded servers = list_all (λ server. is_some server.acct) servers
-are_accounted _ servers = true
+-- some of these servers takes Access-Requests; Accounting-Requests
+abbrev pub some_auth : List ServerView → Bool
+some_auth servers = list_any (λ server. is_some server.auth) servers
 
-abbrev pub is_accounted : RealmView → Bool
-is_accounted realm = are_accounted realm.accounting realm.servers
+abbrev pub some_acct : List ServerView → Bool
+some_acct servers = list_any (λ server. is_some server.acct) servers
+
+-- some of a realm's servers takes Access-Requests and, where its accounting is forwarded, some takes that
+abbrev pub are_serving : Accounting → List ServerView → Bool
+are_serving kinds.Forwarded servers = some_auth servers && some_acct servers
+are_serving _ servers = some_auth servers
 
 -- a table of the array `realm`; `wait`, `hold` and `rest` are in milliseconds
 pub record StatesRealm (members : Members) (realm : RealmView) : Type 0 where
@@ -151,6 +157,7 @@ pub record StatesRealm (members : Members) (realm : RealmView) : Type 0 where
   pub peer_share : optional_at (number 1 4096) (codes "peer_share") members ≡ Some realm.peer_share
   pub own_names : flag (get_member (codes "own_names") members) ≡ Some realm.own_names
   pub conversations : flag (get_member (codes "conversations") members) ≡ Some realm.conversations
+  pub by_user : balance (get_member (codes "balance") members) ≡ Some realm.by_user
   pub own_sessions : flag (get_member (codes "own_sessions") members) ≡ Some realm.own_sessions
   pub coa_clients : StatesFew StatesClient 8 (get_member (codes "coa_client") members) realm.coa_clients
   pub out : value_at (endpoints 16) (codes "out") members ≡ Some realm.out
@@ -165,14 +172,14 @@ pub record StatesRealm (members : Members) (realm : RealmView) : Type 0 where
   pub rest : number_or 30000 0 3600000 (get_member (codes "rest") members) ≡ Some realm.rest
   pub rest_after : number_or 3 1 256 (get_member (codes "rest_after") members) ≡ Some realm.rest_after
   pub servers : StatesTables StatesServer (value_at (array_of 8) (codes "server") members) realm.servers
-  pub accounted : is_accounted realm ≡ true
+  pub services : are_serving realm.accounting realm.servers ≡ true
   pub no_other_key : has_only realm_required realm_optional members ≡ true
 
 -- ## Stated configuration
 -- A text states a configuration where it is a TOML document (as the toolchain's `toml` defines it) whose tables
 -- hold just the keys of the format, each with a value of its kind and range. A number that may be absent has a
--- default; of `max_sessions` it depends on whether the realm has a `reverse`. A server's `acct` may be absent where
--- the realm's `accounting` isn't forwarded.
+-- default; of `max_sessions` it depends on whether the realm has a `reverse`. A server has an `auth`, an `acct` or
+-- both; of a realm's servers one at least has an `auth`, and where its accounting is forwarded one has an `acct`.
 -- Source: ours
 -- Rules out: a key that is overlooked; a port with a leading zero; `*` among the names to reject; a list that takes
 -- out a Proxy-State
@@ -232,14 +239,37 @@ forwards None = true
 forwards (Some (string octets)) = bytes_eq octets (codes "forward")
 forwards (Some _) = false
 
--- one of the required keys is absent from a realm's table, or from one of its servers' or of its `coa_client`s
+-- the table has a key
+abbrev pub has_key : List ℕ → Members → Bool
+has_key key members = is_some (get_member key members)
+
+-- the table of a server says nowhere that it takes requests
+abbrev pub is_nowhere : Members → Bool
+is_nowhere members = not (has_key (codes "auth") members) && not (has_key (codes "acct") members)
+
+-- some items are tables, and none of these has the key
+abbrev pub none_has : List ℕ → Items → Bool
+none_has key items = some_table (λ members. true) items && not (some_table (has_key key) items)
+
+-- some server of a realm takes no requests, or none of them those of a service: Access-Requests or, where the realm's
+-- accounting is forwarded, Accounting-Requests
+abbrev pub lacks_service : Bool → Items → Bool
+lacks_service forwarded items =
+    some_table is_nowhere items || none_has (codes "auth") items || forwarded && none_has (codes "acct") items
+
+-- the same of what a realm has as `server`, if that is an array
+abbrev pub servers_lack : Bool → Option Data → Bool
+servers_lack forwarded (Some (array items)) = lacks_service forwarded items
+servers_lack forwarded _ = false
+
+-- one of the required keys is absent from a realm's table, or from one of its servers' or of its `coa_client`s, or a
+-- service from its servers
 unfoldable pub realm_misses : Members → Bool
 realm_misses members =
     misses realm_required members
     || within (misses server_required) (get_member (codes "server") members)
     || within (misses client_required) (get_member (codes "coa_client") members)
-    || forwards (get_member (codes "accounting") members)
-    && within (misses accounted_required) (get_member (codes "server") members)
+    || servers_lack (forwards (get_member (codes "accounting") members)) (get_member (codes "server") members)
 
 -- the same of the document, or of a table within it
 unfoldable pub document_misses : Members → Bool

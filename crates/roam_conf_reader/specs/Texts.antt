@@ -6,7 +6,7 @@ use Rattle.toml.specs.View.{array_view}
 use Rattle.roam_wire.specs.RemovedAttributes.{is_removal_in_requests, is_removal_in_replies}
 use Rattle.roam_wire.specs.declared.removed_attribute.RemovedAttribute.{RemovedAttribute}
 use Rattle.roam_address.specs.declared.endpoint.Endpoint.{Endpoint}
-use Rattle.roam_address.specs.Prefixes.{shown_prefix}
+use Rattle.roam_address.specs.Prefixes.{PrefixView}
 use Rattle.roam_conf.specs.Config.{ServerView, CoaClientView, PeerView, PatternView, whole, suffix, any, RealmView, ConfigView}
 use Rattle.roam_conf_reader.specs.declared.coa_client.ClientText.{ClientText}
 use Rattle.roam_conf_reader.specs.declared.server.ServerText.{ServerText}
@@ -15,9 +15,9 @@ use Rattle.roam_conf_reader.specs.declared.pattern.PatternText.TheVariants.{Name
 use Rattle.roam_conf_reader.specs.declared.peer.PeerText.{PeerText}
 use Rattle.roam_conf_reader.specs.declared.realm.RealmText.{RealmText}
 use Rattle.roam_conf_reader.specs.declared.stated.TopText.{TopText}
-use Rattle.roam_conf_reader.specs.Document.{StatesEach, StatesFew, StatesClient, StatesServer, StatesPeer, StatesRealm, StatesConfig, are_accounted}
+use Rattle.roam_conf_reader.specs.Document.{StatesEach, StatesFew, StatesClient, StatesServer, StatesPeer, StatesRealm, StatesConfig, are_serving}
 use Rattle.roam_conf_reader.specs.Operators.{operator_said}
-use Rattle.roam_conf_reader.specs.Values.{pattern, list_of, rejects, removed, nas_ids, peer_names, endpoints, endpoints_if_there, value_at, optional_at}
+use Rattle.roam_conf_reader.specs.Values.{pattern, list_of, rejects, removed, nas_ids, peer_names, prefixes, endpoints, endpoints_if_there, value_at, optional_at}
 
 -- a text of `also`
 abbrev pub pattern_said : PatternText → PatternView
@@ -36,12 +36,13 @@ server_in text = record {
 abbrev pub client_in : ClientText → CoaClientView
 client_in text = record { ip = text.ip; secret = text.secret.now }
 
--- with these NAS-Identifiers and lists of attributes to remove
-abbrev pub peer_in : PeerText → List (List ℕ) → List RemovedAttribute → List RemovedAttribute → PeerView
-peer_in text identifiers request reply = record {
+-- with these prefixes, NAS-Identifiers and lists of attributes to remove
+abbrev pub peer_in :
+    PeerText → List PrefixView → List (List ℕ) → List RemovedAttribute → List RemovedAttribute → PeerView
+peer_in text ips identifiers request reply = record {
   gone = false;
   name = text.name.now;
-  ip = shown_prefix text.ip;
+  ips = ips;
   secret = text.secret.now;
   coa = text.coa;
   nas_ip = text.nas_ip;
@@ -56,14 +57,15 @@ peer_in text identifiers request reply = record {
   reply_without = reply;
 }
 
--- the table states a peer, whatever NAS-Identifiers and attributes to remove its arrays state
+-- the table states a peer, whatever prefixes, NAS-Identifiers and attributes to remove its arrays state
 abbrev pub StatesPeerBesideLists : Members → PeerText → Type 0
 StatesPeerBesideLists members text =
-    (identifiers : List (List ℕ)) → (request : List RemovedAttribute) → (reply : List RemovedAttribute)
+    (ips : List PrefixView) → (identifiers : List (List ℕ)) → (request : List RemovedAttribute)
+    → (reply : List RemovedAttribute) → value_at prefixes (codes "ip") members ≡ Some ips
     → nas_ids (get_member (codes "nas_ids") members) ≡ Some identifiers
     → list_of (removed is_removal_in_requests) 64 (get_member (codes "request_without") members) ≡ Some request
     → list_of (removed is_removal_in_replies) 64 (get_member (codes "reply_without") members) ≡ Some reply
-    → StatesPeer members (peer_in text identifiers request reply)
+    → StatesPeer members (peer_in text ips identifiers request reply)
 
 -- with these lists
 abbrev pub realm_in :
@@ -82,6 +84,7 @@ realm_in text also peers request reply clients out reverse servers = record {
   peer_share = text.peer_share;
   own_names = text.own_names;
   conversations = text.conversations;
+  by_user = text.by_user;
   own_sessions = text.own_sessions;
   coa_clients = clients;
   out = out;
@@ -96,7 +99,7 @@ realm_in text also peers request reply clients out reverse servers = record {
   servers = servers;
 }
 
--- the table states a realm, whatever lists its arrays state, in which the servers take accounting that is forwarded
+-- the table states a realm, whatever lists its arrays state, whose servers take what is forwarded to them
 abbrev pub StatesBesideLists : Members → RealmText → Type 0
 StatesBesideLists members text =
     (also : List PatternView) → (peers : Option (List (List ℕ))) → (request : List RemovedAttribute)
@@ -110,7 +113,7 @@ StatesBesideLists members text =
     → value_at (endpoints 16) (codes "out") members ≡ Some out
     → endpoints_if_there 8 (get_member (codes "reverse") members) ≡ Some reverse
     → StatesEach StatesServer (array_view text.servers.now) servers
-    → are_accounted text.accounting servers ≡ true
+    → are_serving text.accounting servers ≡ true
     → StatesRealm members (realm_in text also peers request reply clients out reverse servers)
 
 -- with these endpoints, names to reject, peers and realms

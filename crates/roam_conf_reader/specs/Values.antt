@@ -168,7 +168,13 @@ endpoints most (array items) =
     if nat_le 1 (item_count items) && nat_le (item_count items) most then each_of endpoint items else None
 endpoints most found = one_of (endpoint found)
 
--- the same; none where they are absent
+-- a prefix, or an array of 1 to 8 prefixes
+unfoldable pub prefixes : Data → Option (List PrefixView)
+prefixes (array items) =
+    if nat_le 1 (item_count items) && nat_le (item_count items) 8 then each_of prefix items else None
+prefixes found = one_of (prefix found)
+
+-- as many endpoints; none where they are absent
 abbrev pub endpoints_if_there : ℕ → Option Data → Option (List Endpoint)
 endpoints_if_there most None = Some []
 endpoints_if_there most (Some found) = endpoints most found
@@ -220,6 +226,17 @@ unfoldable pub accounting : Option Data → Option Accounting
 accounting None = Some kinds.Forwarded
 accounting (Some (string octets)) = accounting_in octets
 accounting (Some _) = None
+
+-- whether the user decides with which server a request's targets begin; not where the key is absent
+unfoldable pub balance_in : List ℕ → Option Bool
+balance_in octets =
+    if bytes_eq octets (codes "order") then Some false
+    else if bytes_eq octets (codes "user") then Some true else None
+
+unfoldable pub balance : Option Data → Option Bool
+balance None = Some false
+balance (Some (string octets)) = balance_in octets
+balance (Some _) = None
 
 -- what a required key states
 abbrev pub value_at : {V : Type 0} → (Data → Option V) → List ℕ → Members → Option V

@@ -42,7 +42,7 @@ fn client_text(table: &Table) -> Option<ClientText<'_>>
     }
 }
 
-/// The source that a table states. Memory is asked for only where the table states one.
+/// Reads the source that a table states. Asks for memory only where the table states one.
 fn from_table(alloc: Global, table: &Table) -> Result<CoaClient, ConfFault>
     ensures ok { IfOk result (λ c. StatesClient (table_view table.now) (shown_client c)) }
     ensures bad { result ≡ Err ConfFault.BadValue
@@ -60,7 +60,7 @@ fn from_table(alloc: Global, table: &Table) -> Result<CoaClient, ConfFault>
     })
 }
 
-/// The sources that the tables of an array state, in its order.
+/// Reads the sources that the tables of an array state, in its order.
 fn each_from(alloc: Global, items: &Array) -> Result<Vec<CoaClient>, ConfFault>
     ensures ok { IfOk result
         (λ v. StatesEach StatesClient (array_view items.now) (map shown_client v.items)) }
@@ -81,7 +81,7 @@ fn each_from(alloc: Global, items: &Array) -> Result<Vec<CoaClient>, ConfFault>
     Ok(all)
 }
 
-/// The sources that a realm's table states, at most 8; none where the key is absent.
+/// Reads the sources that a realm's table states, at most 8, and none where the key is absent.
 #[tactic(auto, using(crate::proofs::ArrayLemmas::item_count_of))]
 pub(crate) fn all_from(alloc: Global, table: &Table) -> Result<Vec<CoaClient>, ConfFault>
     ensures ok { IfOk result (λ v. StatesFew StatesClient 8 (get_member (codes "coa_client") (table_view table.now))

@@ -8,7 +8,7 @@ use crate::ConfFault;
 use std::alloc::Global;
 use toml::Table;
 
-/// The document that a text is.
+/// Reads the document that a text is.
 pub(crate) fn document(alloc: Global, text: &str) -> Result<Table, ConfFault>
     ensures ok { IfOk result (λ t. parse_document text.now ≡ Some (table_view t)) }
     ensures syntax { result ≡ Err ConfFault.Syntax → parse_document text.now ≡ None }

@@ -1,13 +1,12 @@
 //! The values that may not stand twice in a configuration.
 //!
-//! What may be many is found by an index: names and patterns of realms, NAS-Identifiers, the sockets of the broker, and
-//! the endpoints of peers among those of all servers. The other searches compare all pairs: of at most 1024 peers, 8
-//! `coa_client`s of a realm, and 16 endpoints of one realm's servers.
+//! What may be many is found by an index: names and patterns of realms, prefixes of peers, NAS-Identifiers, the sockets
+//! of the broker, and the endpoints of peers among those of all servers. The other searches compare all pairs: of at
+//! most 1024 peers, 8 `coa_client`s of a realm, and 16 endpoints of one realm's servers.
 
 ghost use Rattle.std.specs.Prelude.{◌≡◌, ◌≤◌, ◌+◌, ◌++◌, ◌||◌, Some, None, IfOk, OnOk, false, length, map, drop};
 ghost use Rattle.std.specs.List.{list_any};
-ghost use Rattle.std.specs.Option.{option_map_or};
-ghost use Rattle.roam_conf.specs.Duplicates.{has_pair, same_endpoint, is_among, same_client, has_pair_of_servers};
+ghost use Rattle.roam_conf.specs.Duplicates.{has_pair, same_endpoint, is_among, is_there_among, same_client, has_pair_of_servers};
 ghost use Rattle.roam_conf.specs.Duplicates.{own_endpoints, realm_endpoints, server_endpoints, coa_endpoints, some_server_at};
 ghost use Rattle.roam_conf.specs.Duplicates.{has_duplicate_endpoint, has_duplicate_server};
 ghost use Rattle.roam_conf.specs.Duplicates.{has_duplicate_link};
@@ -25,7 +24,7 @@ use roam_conf::{
 };
 use std::alloc::Global;
 
-/// The items from a place on.
+/// Returns the items from a place on.
 pub(crate) fn from_place<T>(items: &[T], place: usize) -> &[T]
     requires { place ≤ length items.now }
     ensures { result.now ≡ drop place items.now }
@@ -76,7 +75,7 @@ fn push_realm(endpoints: &mut Vec<Endpoint>, realm: &Realm) -> Result<(), ConfFa
     push_all(endpoints, realm.reverse.as_slice())
 }
 
-/// The endpoints of the broker's own sockets.
+/// Lists the endpoints of the broker's own sockets.
 fn own_endpoints(
     alloc: Global,
     auth: &[Endpoint],
@@ -95,14 +94,16 @@ fn own_endpoints(
     Ok(endpoints)
 }
 
-/// The endpoints of a realm's servers.
+/// Lists the endpoints of a realm's servers.
 fn server_endpoints(alloc: Global, servers: &[Server]) -> Result<Vec<Endpoint>, ConfFault>
     ensures ok { IfOk result (λ v. v.items ≡ server_endpoints (map shown_server servers.now)) }
     ensures causes { IsMemoryFault result }
 {
     let mut endpoints = Vec::new(alloc);
     for server in servers {
-        endpoints.push(server.auth)?;
+        if let Some(auth) = server.auth {
+            endpoints.push(auth)?;
+        }
         if let Some(acct) = server.acct {
             endpoints.push(acct)?;
         }
@@ -110,7 +111,7 @@ fn server_endpoints(alloc: Global, servers: &[Server]) -> Result<Vec<Endpoint>, 
     Ok(endpoints)
 }
 
-/// The endpoints of those peers that take reverse requests.
+/// Lists the endpoints of those peers that take Disconnect- and CoA-Requests.
 fn coa_endpoints(alloc: Global, peers: &[Peer]) -> Result<Vec<Endpoint>, ConfFault>
     ensures ok { IfOk result (λ v. v.items ≡ coa_endpoints (map shown_peer peers.now)) }
     ensures causes { IsMemoryFault result }
@@ -124,12 +125,12 @@ fn coa_endpoints(alloc: Global, peers: &[Peer]) -> Result<Vec<Endpoint>, ConfFau
     Ok(endpoints)
 }
 
-/// Returns whether the server takes accounting at one of the endpoints.
-fn is_acct_among(endpoints: &EndpointSet, server: &Server) -> bool
-    ensures { result ≡ option_map_or (is_among endpoints.now.keys) (shown_server server.now).acct false }
+/// Returns whether an endpoint is there, and one of these.
+fn is_there_in(endpoints: &EndpointSet, endpoint: Option<Endpoint>) -> bool
+    ensures { result ≡ is_there_among endpoints.now.keys endpoint }
 {
-    match server.acct {
-        Some(acct) => is_in(endpoints, acct),
+    match endpoint {
+        Some(endpoint) => is_in(endpoints, endpoint),
         None => false,
     }
 }
@@ -139,7 +140,7 @@ fn some_server_at(endpoints: &EndpointSet, servers: &[Server]) -> bool
     ensures { result ≡ some_server_at endpoints.now.keys (map shown_server servers.now) }
 {
     for server in servers {
-        if is_in(endpoints, server.auth) || is_acct_among(endpoints, server) {
+        if is_there_in(endpoints, server.auth) || is_there_in(endpoints, server.acct) {
             return true;
         }
     }
@@ -236,8 +237,8 @@ fn has_duplicate_link(alloc: Global, peers: &[Peer], realms: &[Realm]) -> Result
     }
 }
 
-/// The first duplicate that is there, in the order of the faults, or else that a server is where its realm's `out`
-/// sends nothing, or that a peer is named that isn't there.
+/// Finds the first duplicate that is there, in the order of the faults, or else that a server is where its realm's
+/// `out` sends nothing, or that a peer is named that isn't there.
 #[tactic(auto, unfolding(crate::specs::Faults::first_duplicate))]
 pub(crate) fn first_duplicate(
     alloc: Global,

@@ -13,7 +13,7 @@ use std::alloc::Global;
 use toml::value::Array;
 use toml::{Table, Value};
 
-/// The endpoints that the items of an array state, in its order.
+/// Reads the endpoints that the items of an array state, in its order.
 fn each_from(alloc: Global, items: &Array) -> Result<Vec<Endpoint>, ConfFault>
     ensures ok { IfOk result (λ v. spec.each_of spec.endpoint (array_view items.now) ≡ Some v.items) }
     ensures bad { result ≡ Err ConfFault.BadValue → spec.each_of spec.endpoint (array_view items.now) ≡ None }
@@ -29,7 +29,7 @@ fn each_from(alloc: Global, items: &Array) -> Result<Vec<Endpoint>, ConfFault>
     Ok(all)
 }
 
-/// The one endpoint that a value states.
+/// Reads the one endpoint that a value states.
 fn one_from(alloc: Global, value: &Value) -> Result<Vec<Endpoint>, ConfFault>
     ensures ok { IfOk result (λ v. spec.one_of (spec.endpoint (view value.now)) ≡ Some v.items) }
     ensures bad { result ≡ Err ConfFault.BadValue → spec.one_of (spec.endpoint (view value.now)) ≡ None }
@@ -43,7 +43,7 @@ fn one_from(alloc: Global, value: &Value) -> Result<Vec<Endpoint>, ConfFault>
     Ok(one)
 }
 
-/// The endpoints that a value states: one, or an array of 1 to `most`.
+/// Reads the endpoints that a value states: one, or an array of 1 to `most`.
 #[tactic(auto, using(crate::proofs::ArrayLemmas::item_count_of), unfolding(crate::specs::Values::endpoints))]
 fn from_value(alloc: Global, value: &Value, most: usize) -> Result<Vec<Endpoint>, ConfFault>
     ensures ok { IfOk result (λ v. spec.endpoints most (view value.now) ≡ Some v.items) }
@@ -61,7 +61,7 @@ fn from_value(alloc: Global, value: &Value, most: usize) -> Result<Vec<Endpoint>
     }
 }
 
-/// The endpoints that a key of a table states: one, or an array of 1 to `most`.
+/// Reads the endpoints that a key of a table states: one, or an array of 1 to `most`.
 pub(crate) fn at(
     alloc: Global,
     table: &Table,
@@ -80,7 +80,8 @@ pub(crate) fn at(
     }
 }
 
-/// The same; none where the key is absent.
+/// Reads the endpoints that a key of a table states: one, or an array of 1 to `most`, and none where the key is
+/// absent.
 pub(crate) fn at_if_there(
     alloc: Global,
     table: &Table,

@@ -9,7 +9,7 @@ ghost use Rattle.roam_conf_reader.specs.Reading.{IsMemoryFault};
 
 use crate::ConfFault;
 use crate::duplicates::from_place;
-use roam_conf::{Peer, has_duplicate_nas_text, is_same_operator};
+use roam_conf::{Peer, has_duplicate_nas_text, has_duplicate_prefix, is_same_operator};
 use std::alloc::Global;
 
 fn have_same_ipv6(a: Option<[u8; 16]>, b: Option<[u8; 16]>) -> bool
@@ -45,7 +45,6 @@ fn is_same_peer(a: &Peer, b: &Peer) -> bool
     !a.gone
         && !b.gone
         && (a.name.as_str() == b.name.as_str()
-            || a.ip.leading() == b.ip.leading()
             || have_same_ip(a.nas_ip, b.nas_ip)
             || have_same_ipv6(a.nas_ipv6, b.nas_ipv6)
             || have_same_operator(a, b))
@@ -62,8 +61,8 @@ fn is_among_peers(peer: &Peer, others: &[Peer]) -> bool
     false
 }
 
-/// Returns whether two peers that are here are equal in their name, prefix, NAS-IP-Address or NAS-IPv6-Address, or
-/// have Operator-Names that mean the same.
+/// Returns whether two peers that are here are equal in their name, NAS-IP-Address or NAS-IPv6-Address, or have
+/// Operator-Names that mean the same.
 fn has_equal_peers(peers: &[Peer]) -> bool
     ensures { result ≡ has_pair same_peer (map shown_peer peers.now) }
 {
@@ -75,13 +74,16 @@ fn has_equal_peers(peers: &[Peer]) -> bool
     false
 }
 
-/// Returns whether two peers are, or two texts among their NAS-Identifiers are equal.
+/// Returns whether two peers are, or two of their prefixes or of the texts among their NAS-Identifiers are equal.
 #[tactic(auto, unfolding(roam_conf::specs::Duplicates::has_duplicate_peer))]
 pub(crate) fn has_duplicate_peer(alloc: Global, peers: &[Peer]) -> Result<bool, ConfFault>
     ensures ok { IfOk result (λ b. b ≡ has_duplicate_peer (map shown_peer peers.now)) }
     ensures causes { IsMemoryFault result }
 {
     if has_equal_peers(peers) {
+        return Ok(true);
+    }
+    if has_duplicate_prefix(alloc, peers)? {
         return Ok(true);
     }
     Ok(has_duplicate_nas_text(alloc, peers)?)

@@ -38,7 +38,7 @@ pub enum ConfFault {
     Memory,
 }
 
-/// The name of a fault.
+/// Returns the name of a fault.
 fn name_of(fault: ConfFault) -> &'static str
     ensures { result.now ≡ names.name_of fault }
 {

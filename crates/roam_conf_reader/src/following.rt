@@ -20,8 +20,8 @@ fn is_consistent(alloc: Global, parts: &ConfigParts) -> bool
     }
 }
 
-/// A configuration laid out by the one which it is to follow, and with that one's seed: each realm and each peer of
-/// both has the index that it had.
+/// Lays a configuration out by the one which it is to follow, and gives it that one's seed: each realm and each peer
+/// of both has the index that it had.
 ///
 /// # Errors
 ///

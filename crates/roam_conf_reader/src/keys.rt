@@ -4,13 +4,12 @@ ghost use Rattle.std.specs.Prelude.{◌≡◌, ◌≤◌, IfSome, option_map};
 ghost use Rattle.std.specs.Option.{option_copied};
 ghost use Rattle.toml.specs.Data.{get_member};
 ghost use Rattle.toml.specs.View.{table_view, array_view};
-ghost use Rattle.roam_address.specs.Prefixes.{shown_prefix};
 ghost use Rattle.roam_conf_reader.specs.Values as spec;
 ghost use Rattle.roam_conf_reader.specs.Values.{letters_of, value_at, optional_at};
 
 use crate::station_word::StationWord;
 use crate::values::{self, Letters, value};
-use roam_conf::{Accounting, Address, Endpoint, ExchangeLines, Prefix};
+use roam_conf::{Accounting, Address, Endpoint, ExchangeLines};
 use toml::value::Array;
 use toml::{Table, Value};
 
@@ -20,19 +19,13 @@ pub(crate) fn address(table: &Table, key: &str) -> Option<Address>
     values::address_of(value(table, key)?)
 }
 
-pub(crate) fn prefix(table: &Table, key: &str) -> Option<Prefix>
-    ensures { option_map shown_prefix result ≡ value_at spec.prefix key.now (table_view table.now) }
-{
-    values::prefix_of(value(table, key)?)
-}
-
 pub(crate) fn endpoint(table: &Table, key: &str) -> Option<Endpoint>
     ensures { result ≡ value_at spec.endpoint key.now (table_view table.now) }
 {
     values::endpoint_of(value(table, key)?)
 }
 
-/// 32 octets, written as 64 hexadecimal digits, or 32 zeros where the key is absent.
+/// Reads 32 octets, written as 64 hexadecimal digits, or returns 32 zeros where the key is absent.
 #[tactic(auto, unfolding(crate::specs::Values::seed_or_zeros))]
 pub(crate) fn seed_or_zeros(table: &Table, key: &str) -> Option<[u8; 32]>
     ensures { result ≡ spec.seed_or_zeros (get_member key.now (table_view table.now)) }
@@ -43,7 +36,7 @@ pub(crate) fn seed_or_zeros(table: &Table, key: &str) -> Option<[u8; 32]>
     }
 }
 
-/// An array of 1 to `most` items.
+/// Reads an array of 1 to `most` items.
 pub(crate) fn array<'a>(table: &'a Table, key: &str, most: usize) -> Option<&'a Array>
     ensures { option_map (λ a. array_view a.now) result
         ≡ value_at (spec.array_of most) key.now (table_view table.now) }
@@ -51,7 +44,7 @@ pub(crate) fn array<'a>(table: &'a Table, key: &str, most: usize) -> Option<&'a 
     values::array_of(value(table, key)?, most)
 }
 
-/// A text of 1 to `most` octets, all of them among the letters.
+/// Reads a text of 1 to `most` octets, all of them among the letters.
 pub(crate) fn text<'a>(
     table: &'a Table,
     key: &str,
@@ -64,7 +57,7 @@ pub(crate) fn text<'a>(
     values::text_of(value(table, key)?, most, letters)
 }
 
-/// An integer from `least` to `most`, or `default` where the key is absent.
+/// Reads an integer from `least` to `most`, or returns `default` where the key is absent.
 #[tactic(auto, unfolding(crate::specs::Values::number_or))]
 pub(crate) fn number_or(
     table: &Table,
@@ -84,7 +77,7 @@ pub(crate) fn number_or(
     }
 }
 
-/// An integer from 1 to `most`, or `Some(None)` where the key is absent.
+/// Reads an integer from 1 to `most`, or returns `Some(None)` where the key is absent.
 pub(crate) fn optional_octet(table: &Table, key: &str, most: u8) -> Option<Option<u8>>
     ensures { result ≡ optional_at (spec.number 1 most) key.now (table_view table.now) }
 {
@@ -94,7 +87,7 @@ pub(crate) fn optional_octet(table: &Table, key: &str, most: u8) -> Option<Optio
     }
 }
 
-/// The same, of up to 16 bits, and from `least` on.
+/// Reads an integer of up to 16 bits, from `least` to `most`, or returns `Some(None)` where the key is absent.
 pub(crate) fn optional_count(table: &Table, key: &str, least: u16, most: u16) -> Option<Option<u16>>
     ensures { result ≡ optional_at (spec.number least most) key.now (table_view table.now) }
 {
@@ -106,7 +99,7 @@ pub(crate) fn optional_count(table: &Table, key: &str, least: u16, most: u16) ->
     }
 }
 
-/// The octets of an address of IPv4, or `Some(None)` where the key is absent.
+/// Reads the octets of an address of IPv4, or returns `Some(None)` where the key is absent.
 pub(crate) fn optional_ipv4(table: &Table, key: &str) -> Option<Option<[u8; 4]>>
     ensures { result ≡ optional_at spec.ipv4 key.now (table_view table.now) }
 {
@@ -116,7 +109,7 @@ pub(crate) fn optional_ipv4(table: &Table, key: &str) -> Option<Option<[u8; 4]>>
     }
 }
 
-/// The octets of an address of IPv6, or `Some(None)` where the key is absent.
+/// Reads the octets of an address of IPv6, or returns `Some(None)` where the key is absent.
 pub(crate) fn optional_ipv6(table: &Table, key: &str) -> Option<Option<[u8; 16]>>
     ensures { result ≡ optional_at spec.ipv6 key.now (table_view table.now) }
 {
@@ -126,7 +119,7 @@ pub(crate) fn optional_ipv6(table: &Table, key: &str) -> Option<Option<[u8; 16]>
     }
 }
 
-/// An endpoint, or `Some(None)` where the key is absent.
+/// Reads an endpoint, or returns `Some(None)` where the key is absent.
 pub(crate) fn optional_endpoint(table: &Table, key: &str) -> Option<Option<Endpoint>>
     ensures { result ≡ optional_at spec.endpoint key.now (table_view table.now) }
 {
@@ -136,7 +129,7 @@ pub(crate) fn optional_endpoint(table: &Table, key: &str) -> Option<Option<Endpo
     }
 }
 
-/// A text of 1 to `most` octets, or `Some(None)` where the key is absent.
+/// Reads a text of 1 to `most` octets, or returns `Some(None)` where the key is absent.
 pub(crate) fn optional_text<'a>(table: &'a Table, key: &str, most: usize) -> Option<Option<&'a str>>
     ensures { option_map (λ text. option_copied text) result
         ≡ optional_at (spec.text most (letters_of Letters.Any)) key.now (table_view table.now) }
@@ -147,7 +140,7 @@ pub(crate) fn optional_text<'a>(table: &'a Table, key: &str, most: usize) -> Opt
     }
 }
 
-/// The namespace of an Operator-Name, a digit, or `Some(None)` where the key is absent.
+/// Reads the namespace of an Operator-Name, a digit, or returns `Some(None)` where the key is absent.
 pub(crate) fn optional_namespace<'a>(table: &'a Table, key: &str) -> Option<Option<&'a str>>
     ensures { option_map (λ text. option_copied text) result
         ≡ optional_at spec.namespace key.now (table_view table.now) }
@@ -158,7 +151,7 @@ pub(crate) fn optional_namespace<'a>(table: &'a Table, key: &str) -> Option<Opti
     }
 }
 
-/// A path that the address of a UNIX socket has room for, or `Some(None)` where the key is absent.
+/// Reads a path that the address of a UNIX socket has room for, or returns `Some(None)` where the key is absent.
 pub(crate) fn optional_socket_path<'a>(table: &'a Table, key: &str) -> Option<Option<&'a str>>
     ensures { option_map (λ text. option_copied text) result
         ≡ optional_at spec.socket_path key.now (table_view table.now) }
@@ -169,7 +162,7 @@ pub(crate) fn optional_socket_path<'a>(table: &'a Table, key: &str) -> Option<Op
     }
 }
 
-/// A path of a file, or `Some(None)` where the key is absent.
+/// Reads a path of a file, or returns `Some(None)` where the key is absent.
 pub(crate) fn optional_file_path<'a>(table: &'a Table, key: &str) -> Option<Option<&'a str>>
     ensures { option_map (λ text. option_copied text) result
         ≡ optional_at spec.file_path key.now (table_view table.now) }
@@ -180,7 +173,7 @@ pub(crate) fn optional_file_path<'a>(table: &'a Table, key: &str) -> Option<Opti
     }
 }
 
-/// Of which exchanges lines tell: of all where the key is absent.
+/// Reads the exchanges of which lines tell: all where the key is absent.
 #[tactic(auto, unfolding(crate::specs::Values::exchange_lines))]
 pub(crate) fn exchange_lines(table: &Table, key: &str) -> Option<ExchangeLines>
     ensures { result ≡ spec.exchange_lines (get_member key.now (table_view table.now)) }
@@ -203,6 +196,18 @@ pub(crate) fn accounting(table: &Table, key: &str) -> Option<Accounting>
     }
 }
 
+/// Returns whether the user decides with which server a request's targets begin: not where the key is absent.
+#[tactic(auto, unfolding(crate::specs::Values::balance))]
+pub(crate) fn balance(table: &Table, key: &str) -> Option<bool>
+    ensures { result ≡ spec.balance (get_member key.now (table_view table.now)) }
+{
+    match value(table, key) {
+        Some(Value::String(text)) => values::balance_in(text.as_str()),
+        Some(_) => None,
+        None => Some(false),
+    }
+}
+
 /// Returns how lines have a station: as it stands where the key is absent.
 #[tactic(auto, unfolding(crate::specs::Values::station_word))]
 pub(crate) fn station_word(table: &Table, key: &str) -> Option<StationWord>
@@ -214,7 +219,7 @@ pub(crate) fn station_word(table: &Table, key: &str) -> Option<StationWord>
     }
 }
 
-/// A boolean, false where the key is absent.
+/// Reads a boolean, which is false where the key is absent.
 #[tactic(auto, unfolding(crate::specs::Values::flag))]
 pub(crate) fn flag(table: &Table, key: &str) -> Option<bool>
     ensures { result ≡ spec.flag (get_member key.now (table_view table.now)) }

@@ -27,6 +27,7 @@ mod names;
 mod operator;
 mod pattern;
 mod peer;
+mod prefixes;
 mod realm;
 mod removed;
 mod server;

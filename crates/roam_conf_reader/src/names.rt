@@ -14,7 +14,7 @@ use std::alloc::Global;
 use toml::value::Array;
 use toml::{Table, Value};
 
-/// The text of 1 to `most` octets that a value states.
+/// Reads the text of 1 to `most` octets that a value states.
 fn from_value(alloc: Global, value: &Value, most: usize) -> Result<String, ConfFault>
     ensures ok { IfOk result
         (λ name. spec.text most (letters_of Letters.Any) (view value.now) ≡ Some (string_bytes name)) }
@@ -28,7 +28,7 @@ fn from_value(alloc: Global, value: &Value, most: usize) -> Result<String, ConfF
     }
 }
 
-/// The texts of 1 to `most` octets that an array states, in its order.
+/// Reads the texts of 1 to `most` octets that an array states, in its order.
 fn each_from(alloc: Global, items: &Array, most: usize) -> Result<Vec<String>, ConfFault>
     ensures ok { IfOk result (λ v. spec.each_of (spec.text most (letters_of Letters.Any)) (array_view items.now)
         ≡ Some (map string_bytes v.items)) }
@@ -44,7 +44,7 @@ fn each_from(alloc: Global, items: &Array, most: usize) -> Result<Vec<String>, C
     Ok(all)
 }
 
-/// The names that a value states: an array of 1 to 1024 texts.
+/// Reads the names that a value states: an array of 1 to 1024 texts.
 #[tactic(auto, using(crate::proofs::ArrayLemmas::item_count_of), unfolding(crate::specs::Values::peer_names))]
 fn names_from(alloc: Global, value: &Value) -> Result<Vec<String>, ConfFault>
     ensures ok { IfOk result (λ v. spec.peer_names (view value.now) ≡ Some (shown_names v)) }
@@ -62,7 +62,7 @@ fn names_from(alloc: Global, value: &Value) -> Result<Vec<String>, ConfFault>
     }
 }
 
-/// The names of peers that a realm's table states, where it states any.
+/// Reads the names of peers that a realm's table states, where it states any.
 pub(crate) fn of_peers(alloc: Global, table: &Table) -> Result<Option<Vec<String>>, ConfFault>
     ensures ok { IfOk result (λ o. optional_at spec.peer_names (codes "peers") (table_view table.now)
         ≡ Some (option_map shown_names o)) }
@@ -76,7 +76,7 @@ pub(crate) fn of_peers(alloc: Global, table: &Table) -> Result<Option<Vec<String
     }
 }
 
-/// The further NAS-Identifiers that a peer's table states; none where the key is absent.
+/// Reads the further NAS-Identifiers that a peer's table states, and none where the key is absent.
 #[tactic(auto, using(crate::proofs::ArrayLemmas::item_count_of), unfolding(crate::specs::Values::list_of))]
 pub(crate) fn of_access_servers(alloc: Global, table: &Table) -> Result<Vec<String>, ConfFault>
     ensures ok { IfOk result (λ v. spec.nas_ids (get_member (codes "nas_ids") (table_view table.now))

@@ -20,8 +20,8 @@ pub(crate) struct OperatorText<'a> {
     pub(crate) name: &'a str,
 }
 
-/// The Operator-Name that a peer's table states, where it states one; nothing where a value is bad, or there is a
-/// namespace without a name.
+/// Reads the Operator-Name that a peer's table states, where it states one. Returns `None` where a value is bad, or
+/// there is a namespace without a name.
 pub(crate) fn operator_text(table: &Table) -> Option<Option<OperatorText<'_>>>
     ensures { option_map (λ text. option_map operator_said text) result ≡ operator_at (table_view table.now) }
 {
@@ -38,7 +38,7 @@ pub(crate) fn operator_text(table: &Table) -> Option<Option<OperatorText<'_>>>
     }
 }
 
-/// The value of an Operator-Name: its namespace, and its name behind it.
+/// Makes the value of an Operator-Name: its namespace, and its name behind it.
 fn value_of(alloc: Global, text: OperatorText<'_>) -> Result<String, ConfFault>
     ensures ok { IfOk result (λ value. string_bytes value ≡ operator_said text.entry) }
     ensures causes { IsMemoryFault result }
@@ -48,7 +48,7 @@ fn value_of(alloc: Global, text: OperatorText<'_>) -> Result<String, ConfFault>
     Ok(value)
 }
 
-/// The same, of one that may be absent.
+/// Makes the value of an Operator-Name that may be absent: its namespace, and its name behind it.
 pub(crate) fn copied(
     alloc: Global,
     text: Option<OperatorText<'_>>,

@@ -52,7 +52,7 @@ fn pattern_text(text: &str) -> Option<PatternText<'_>>
     }
 }
 
-/// The pattern that a value states.
+/// Reads the pattern that a value states.
 #[tactic(auto, unfolding(crate::specs::Values::pattern))]
 fn from_value(alloc: Global, value: &Value) -> Result<RealmPattern, ConfFault>
     ensures ok { IfOk result (λ p. spec.pattern (view value.now) ≡ Some (shown_pattern p)) }
@@ -70,7 +70,7 @@ fn from_value(alloc: Global, value: &Value) -> Result<RealmPattern, ConfFault>
     }
 }
 
-/// The patterns that the texts of an array state, in its order.
+/// Reads the patterns that the texts of an array state, in its order.
 fn each_from(alloc: Global, items: &Array) -> Result<Vec<RealmPattern>, ConfFault>
     ensures ok { IfOk result
         (λ v. spec.each_of spec.pattern (array_view items.now) ≡ Some (map shown_pattern v.items)) }
@@ -86,7 +86,7 @@ fn each_from(alloc: Global, items: &Array) -> Result<Vec<RealmPattern>, ConfFaul
     Ok(all)
 }
 
-/// The patterns that a key of a table has, at most `most`; none where it is absent.
+/// Reads the patterns that a key of a table has, at most `most`, and none where it is absent.
 #[tactic(auto, using(crate::proofs::ArrayLemmas::item_count_of), unfolding(crate::specs::Values::list_of))]
 fn list_from(
     alloc: Global,
@@ -114,7 +114,7 @@ fn list_from(
     }
 }
 
-/// The patterns that a realm's table states; none where the key is absent.
+/// Reads the patterns that a realm's table states, and none where the key is absent.
 pub(crate) fn all_from(alloc: Global, table: &Table) -> Result<Vec<RealmPattern>, ConfFault>
     ensures ok { IfOk result (λ v. spec.list_of spec.pattern 256 (get_member (codes "also") (table_view table.now))
         ≡ Some (map shown_pattern v.items)) }
@@ -148,7 +148,7 @@ fn are_rejects(patterns: &[RealmPattern]) -> bool
     true
 }
 
-/// The names and suffixes that the document rejects; none where the key is absent.
+/// Reads the names and suffixes that the document rejects, and none where the key is absent.
 pub(crate) fn rejects_from(alloc: Global, table: &Table) -> Result<Vec<RealmPattern>, ConfFault>
     ensures ok { IfOk result (λ v. spec.rejects (get_member (codes "reject") (table_view table.now))
         ≡ Some (map shown_pattern v.items)) }

@@ -13,8 +13,8 @@ ghost use Rattle.roam_conf_reader.specs.Texts.{StatesPeerBesideLists};
 use crate::operator::{OperatorText, operator_text};
 use crate::tables::{PEER_KEYS, PEER_OPTIONAL_KEYS, has_only};
 use crate::values::Letters;
-use crate::{ConfFault, keys, names, operator, removed};
-use roam_conf::{Endpoint, Peer, Prefix, SharedSecret};
+use crate::{ConfFault, keys, names, operator, prefixes, removed};
+use roam_conf::{Endpoint, Peer, SharedSecret};
 use std::alloc::Global;
 use toml::Table;
 use toml::value::Array;
@@ -23,7 +23,6 @@ use toml::value::Array;
 #[derive(Clone, Copy)]
 struct PeerText<'a> {
     name: &'a str,
-    ip: Prefix,
     secret: &'a str,
     coa: Option<Endpoint>,
     nas_ip: Option<[u8; 4]>,
@@ -44,9 +43,8 @@ fn peer_text(table: &Table) -> Option<PeerText<'_>>
     if !has_only(table, &PEER_KEYS, &PEER_OPTIONAL_KEYS) {
         return None;
     }
-    let (Some(name), Some(ip), Some(secret)) = (
+    let (Some(name), Some(secret)) = (
         keys::text(table, "name", 64, Letters::PeerName),
-        keys::prefix(table, "ip"),
         keys::text(table, "secret", 64, Letters::Any),
     ) else {
         return None;
@@ -69,7 +67,6 @@ fn peer_text(table: &Table) -> Option<PeerText<'_>>
     };
     Some(PeerText {
         name,
-        ip,
         secret,
         coa,
         nas_ip,
@@ -82,7 +79,7 @@ fn peer_text(table: &Table) -> Option<PeerText<'_>>
     })
 }
 
-/// A copy of a text that may be absent.
+/// Copies a text that may be absent.
 pub(crate) fn copied(alloc: Global, text: Option<&str>) -> Result<Option<String>, ConfFault>
     ensures ok { IfOk result (λ o. option_map string_bytes o ≡ option_copied text.entry) }
     ensures causes { IsMemoryFault result }
@@ -93,7 +90,7 @@ pub(crate) fn copied(alloc: Global, text: Option<&str>) -> Result<Option<String>
     }
 }
 
-/// The peer that a table states. Memory is asked for only where the table's own values are good.
+/// Reads the peer that a table states. Asks for memory only where the table's own values are good.
 fn from_table(alloc: Global, table: &Table) -> Result<Peer, ConfFault>
     ensures ok { IfOk result (λ p. StatesPeer (table_view table.now) (shown_peer p)) }
     ensures bad { result ≡ Err ConfFault.BadValue
@@ -108,7 +105,7 @@ fn from_table(alloc: Global, table: &Table) -> Result<Peer, ConfFault>
     Ok(Peer {
         gone: false,
         name: String::from_str(alloc, text.name)?,
-        ip: text.ip,
+        ips: prefixes::at(alloc, table, "ip")?,
         coa: text.coa,
         nas_ip: text.nas_ip,
         nas_ipv6: text.nas_ipv6,
@@ -124,7 +121,7 @@ fn from_table(alloc: Global, table: &Table) -> Result<Peer, ConfFault>
     })
 }
 
-/// The peers that the tables of an array state, in its order.
+/// Reads the peers that the tables of an array state, in its order.
 pub(crate) fn all_from(alloc: Global, items: &Array) -> Result<Vec<Peer>, ConfFault>
     ensures ok { IfOk result
         (λ v. StatesEach StatesPeer (array_view items.now) (map shown_peer v.items)) }

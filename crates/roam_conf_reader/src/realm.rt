@@ -1,13 +1,12 @@
 //! The realms that tables state.
 
-ghost use Rattle.std.specs.Prelude.{◌≡◌, ◌≤◌, codes, Err, IfOk, List, MatchOption, Some, is_some, map, option_map};
-ghost use Rattle.std.specs.List.{list_all};
+ghost use Rattle.std.specs.Prelude.{◌≡◌, ◌≤◌, codes, Err, IfOk, List, MatchOption, Some, map, option_map};
 ghost use Rattle.toml.specs.Data.{get_member};
 ghost use Rattle.toml.specs.View.{array_view, table_view, view};
-ghost use Rattle.roam_conf.specs.Config.{RealmView, ServerView};
+ghost use Rattle.roam_conf.specs.Config.{RealmView};
 ghost use Rattle.roam_conf.specs.Parts.{shown_realm, shown_server};
 ghost use Rattle.roam_conf_reader.specs.declared.realm.RealmText.{RealmText};
-ghost use Rattle.roam_conf_reader.specs.Document.{StatesEach, StatesRealm, sessions_unless_said, are_accounted};
+ghost use Rattle.roam_conf_reader.specs.Document.{StatesEach, StatesRealm, sessions_unless_said, are_serving, some_auth, some_acct};
 ghost use Rattle.roam_conf_reader.specs.Reading.{IsValueFault};
 ghost use Rattle.roam_conf_reader.specs.Texts.{StatesBesideLists};
 ghost use Rattle.roam_conf_reader.specs.Values.{accounting, array_of, value_at};
@@ -30,6 +29,7 @@ struct RealmText<'a> {
     peer_share: Option<u16>,
     own_names: bool,
     conversations: bool,
+    by_user: bool,
     own_sessions: bool,
     tries: u8,
     wait: u32,
@@ -63,9 +63,10 @@ fn realm_text(table: &Table) -> Option<RealmText<'_>>
     if !has_only(table, &REALM_KEYS, &REALM_OPTIONAL_KEYS) {
         return None;
     }
-    let (Some(name), Some(accounting), Some(share), Some(peer_share)) = (
+    let (Some(name), Some(accounting), Some(by_user), Some(share), Some(peer_share)) = (
         keys::text(table, "name", 253, Letters::RealmName),
         keys::accounting(table, "accounting"),
+        keys::balance(table, "balance"),
         keys::optional_count(table, "share", 1, 4096),
         keys::optional_count(table, "peer_share", 1, 4096),
     ) else {
@@ -88,6 +89,7 @@ fn realm_text(table: &Table) -> Option<RealmText<'_>>
         peer_share,
         own_names,
         conversations,
+        by_user,
         own_sessions,
         tries: keys::number_or(table, "tries", 3, 1, 10)? as u8,
         wait: keys::number_or(table, "wait", 2000, 1, 60000)?,
@@ -100,29 +102,41 @@ fn realm_text(table: &Table) -> Option<RealmText<'_>>
     })
 }
 
-/// Returns whether each of these servers takes accounting.
-fn all_take_accounting(servers: &[Server]) -> bool
-    ensures { result ≡ list_all (λ (s : ServerView). is_some s.acct) (map shown_server servers.now) }
+/// Returns whether some of these servers takes Access-Requests.
+fn some_auth(servers: &[Server]) -> bool
+    ensures { result ≡ some_auth (map shown_server servers.now) }
 {
     for server in servers {
-        if server.acct.is_none() {
-            return false;
+        if server.auth.is_some() {
+            return true;
         }
     }
-    true
+    false
 }
 
-/// Returns whether each of these servers takes accounting, where it is forwarded.
-fn are_accounted(accounting: Accounting, servers: &[Server]) -> bool
-    ensures { result ≡ are_accounted accounting (map shown_server servers.now) }
+/// Returns whether some of these servers takes Accounting-Requests.
+fn some_acct(servers: &[Server]) -> bool
+    ensures { result ≡ some_acct (map shown_server servers.now) }
+{
+    for server in servers {
+        if server.acct.is_some() {
+            return true;
+        }
+    }
+    false
+}
+
+/// Returns whether some of these servers takes Access-Requests and, where accounting is forwarded, some takes that.
+fn are_serving(accounting: Accounting, servers: &[Server]) -> bool
+    ensures { result ≡ are_serving accounting (map shown_server servers.now) }
 {
     match accounting {
-        Accounting::Forwarded => all_take_accounting(servers),
-        Accounting::Answered | Accounting::Dropped => true,
+        Accounting::Forwarded => some_auth(servers) && some_acct(servers),
+        Accounting::Answered | Accounting::Dropped => some_auth(servers),
     }
 }
 
-/// The realm that a table states. Memory is asked for only where the table's own values are good.
+/// Reads the realm that a table states. Asks for memory only where the table's own values are good.
 fn from_table(alloc: Global, table: &Table) -> Result<Realm, ConfFault>
     ensures ok { IfOk result (λ r. StatesRealm (table_view table.now) (shown_realm r)) }
     ensures bad { result ≡ Err ConfFault.BadValue
@@ -135,7 +149,7 @@ fn from_table(alloc: Global, table: &Table) -> Result<Realm, ConfFault>
         return Err(ConfFault::BadValue);
     };
     let servers = server::all_from(alloc, text.servers)?;
-    if !are_accounted(text.accounting, servers.as_slice()) {
+    if !are_serving(text.accounting, servers.as_slice()) {
         return Err(ConfFault::BadValue);
     }
     Ok(Realm {
@@ -151,6 +165,7 @@ fn from_table(alloc: Global, table: &Table) -> Result<Realm, ConfFault>
         peer_share: text.peer_share,
         own_names: text.own_names,
         conversations: text.conversations,
+        by_user: text.by_user,
         own_sessions: text.own_sessions,
         coa_clients: coa_client::all_from(alloc, table)?,
         out: endpoints::at(alloc, table, "out", 16)?,
@@ -166,7 +181,7 @@ fn from_table(alloc: Global, table: &Table) -> Result<Realm, ConfFault>
     })
 }
 
-/// The realms that the tables of an array state, in its order.
+/// Reads the realms that the tables of an array state, in its order.
 pub(crate) fn all_from(alloc: Global, items: &Array) -> Result<Vec<Realm>, ConfFault>
     ensures ok { IfOk result
         (λ v. StatesEach StatesRealm (array_view items.now) (map shown_realm v.items)) }

@@ -48,7 +48,7 @@ impl Removals {
     }
 }
 
-/// The attribute that a text names, where the list may name it.
+/// Reads the attribute that a text names, where the list may name it.
 fn from_text(text: &str, removals: Removals) -> Option<RemovedAttribute>
     ensures { result ≡ spec.passing (may_name removals) (removed_in text.now) }
 {
@@ -64,7 +64,7 @@ fn from_text(text: &str, removals: Removals) -> Option<RemovedAttribute>
     }
 }
 
-/// The attribute that a value names, where the list may name it.
+/// Reads the attribute that a value names, where the list may name it.
 #[tactic(auto, unfolding(crate::specs::Values::removed))]
 fn from_value(value: &Value, removals: Removals) -> Option<RemovedAttribute>
     ensures { result ≡ spec.removed (may_name removals) (view value.now) }
@@ -75,7 +75,7 @@ fn from_value(value: &Value, removals: Removals) -> Option<RemovedAttribute>
     }
 }
 
-/// The attributes that the texts of an array name, in its order.
+/// Reads the attributes that the texts of an array name, in its order.
 fn each_from(
     alloc: Global,
     items: &Array,
@@ -97,7 +97,7 @@ fn each_from(
     Ok(all)
 }
 
-/// The attributes that a key of a table names, at most 64; none where it is absent.
+/// Reads the attributes that a key of a table names, at most 64, and none where it is absent.
 #[tactic(auto, using(crate::proofs::ArrayLemmas::item_count_of), unfolding(crate::specs::Values::list_of))]
 fn list_from(
     alloc: Global,
@@ -125,7 +125,7 @@ fn list_from(
     }
 }
 
-/// The attributes of requests that a table takes out; none where the key is absent.
+/// Reads the attributes of requests that a table takes out, and none where the key is absent.
 pub(crate) fn of_requests(alloc: Global, table: &Table) -> Result<Vec<RemovedAttribute>, ConfFault>
     ensures ok { IfOk result (λ v. spec.list_of (spec.removed is_removal_in_requests) 64
         (get_member (codes "request_without") (table_view table.now)) ≡ Some v.items) }
@@ -136,7 +136,7 @@ pub(crate) fn of_requests(alloc: Global, table: &Table) -> Result<Vec<RemovedAtt
     list_from(alloc, table, "request_without", Removals::OfRequests)
 }
 
-/// The attributes of replies that a table takes out; none where the key is absent.
+/// Reads the attributes of replies that a table takes out, and none where the key is absent.
 pub(crate) fn of_replies(alloc: Global, table: &Table) -> Result<Vec<RemovedAttribute>, ConfFault>
     ensures ok { IfOk result (λ v. spec.list_of (spec.removed is_removal_in_replies) 64
         (get_member (codes "reply_without") (table_view table.now)) ≡ Some v.items) }

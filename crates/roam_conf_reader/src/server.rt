@@ -19,7 +19,7 @@ use toml::value::Array;
 /// The table of a home server, as stated. Its secret still stands in the document.
 #[derive(Clone, Copy)]
 struct ServerText<'a> {
-    auth: Endpoint,
+    auth: Option<Endpoint>,
     acct: Option<Endpoint>,
     secret: &'a str,
     require_seal: bool,
@@ -35,13 +35,16 @@ fn server_text(table: &Table) -> Option<ServerText<'_>>
         return None;
     }
     let (Some(auth), Some(acct), Some(secret), Some(require_seal)) = (
-        keys::endpoint(table, "auth"),
+        keys::optional_endpoint(table, "auth"),
         keys::optional_endpoint(table, "acct"),
         keys::text(table, "secret", 64, Letters::Any),
         keys::flag(table, "require_seal"),
     ) else {
         return None;
     };
+    if auth.is_none() && acct.is_none() {
+        return None;
+    }
     Some(ServerText {
         auth,
         acct,
@@ -50,7 +53,7 @@ fn server_text(table: &Table) -> Option<ServerText<'_>>
     })
 }
 
-/// The home server that a table states. Memory is asked for only where the table states one.
+/// Reads the home server that a table states. Asks for memory only where the table states one.
 fn from_table(alloc: Global, table: &Table) -> Result<Server, ConfFault>
     ensures ok { IfOk result (λ s. StatesServer (table_view table.now) (shown_server s)) }
     ensures bad { result ≡ Err ConfFault.BadValue
@@ -70,7 +73,7 @@ fn from_table(alloc: Global, table: &Table) -> Result<Server, ConfFault>
     })
 }
 
-/// The home servers that the tables of an array state, in its order.
+/// Reads the home servers that the tables of an array state, in its order.
 pub(crate) fn all_from(alloc: Global, items: &Array) -> Result<Vec<Server>, ConfFault>
     ensures ok { IfOk result
         (λ v. StatesEach StatesServer (array_view items.now) (map shown_server v.items)) }

@@ -1,10 +1,11 @@
 //! The keys of the tables of a document.
 
-ghost use Rattle.std.specs.Prelude.{◌≡◌, codes};
+ghost use Rattle.std.specs.Prelude.{◌≡◌, codes, true};
 ghost use Rattle.toml.specs.Data.{get_member};
 ghost use Rattle.toml.specs.View.{table_view, array_view};
 ghost use Rattle.roam_conf_reader.specs.Document as spec;
-ghost use Rattle.roam_conf_reader.specs.Document.{misses, some_table, within};
+ghost use Rattle.roam_conf_reader.specs.Document.{has_key, is_nowhere, lacks_service, misses, none_has, servers_lack};
+ghost use Rattle.roam_conf_reader.specs.Document.{some_table, within};
 ghost use Rattle.roam_conf_reader.specs.Tables.{shown_keys};
 
 use crate::values::value;
@@ -12,13 +13,10 @@ use toml::value::Array;
 use toml::{Table, Value};
 
 /// The keys that a home server's table must have.
-pub(crate) const SERVER_KEYS: [&str; 2] = ["auth", "secret"];
+pub(crate) const SERVER_KEYS: [&str; 1] = ["secret"];
 
-/// The key that it must have too where the realm's accounting is forwarded.
-const ACCOUNTED_KEYS: [&str; 1] = ["acct"];
-
-/// The keys that a home server's table may have besides.
-pub(crate) const SERVER_OPTIONAL_KEYS: [&str; 2] = ["acct", "require_seal"];
+/// The keys that a home server's table may have besides: one at least of the first two.
+pub(crate) const SERVER_OPTIONAL_KEYS: [&str; 3] = ["auth", "acct", "require_seal"];
 
 /// The keys that a `coa_client` of a realm must have; it may have no other.
 pub(crate) const CLIENT_KEYS: [&str; 2] = ["ip", "secret"];
@@ -46,7 +44,7 @@ pub(crate) const PEER_OPTIONAL_KEYS: [&str; 12] = [
 pub(crate) const REALM_KEYS: [&str; 3] = ["name", "out", "server"];
 
 /// The keys that a realm's table may have besides.
-pub(crate) const REALM_OPTIONAL_KEYS: [&str; 20] = [
+pub(crate) const REALM_OPTIONAL_KEYS: [&str; 21] = [
     "also",
     "peers",
     "loop_prevention",
@@ -57,6 +55,7 @@ pub(crate) const REALM_OPTIONAL_KEYS: [&str; 20] = [
     "peer_share",
     "own_names",
     "conversations",
+    "balance",
     "own_sessions",
     "coa_client",
     "reverse",
@@ -144,7 +143,7 @@ fn some_misses(items: &Array, keys: &[&str]) -> bool
     false
 }
 
-/// The same of what a key of a table has, if that is an array.
+/// Returns whether a key of a table has an array with a table that misses one of these keys.
 fn some_misses_within(table: &Table, key: &str, keys: &[&str]) -> bool
     ensures { result ≡ within (misses (shown_keys keys.now)) (get_member key.now (table_view table.now)) }
 {
@@ -169,7 +168,82 @@ fn forwards(table: &Table) -> bool
     }
 }
 
-/// Returns whether a realm's table, or the table of one of its servers or of its `coa_client`s, misses a key.
+/// Returns whether the table has a key.
+fn has_key(table: &Table, key: &str) -> bool
+    ensures { result ≡ has_key key.now (table_view table.now) }
+{
+    value(table, key).is_some()
+}
+
+/// Returns whether one of the items is a table.
+fn has_table(items: &Array) -> bool
+    ensures { result ≡ some_table (λ members. true) (array_view items.now) }
+{
+    for value in items {
+        if value.as_table().is_some() {
+            return true;
+        }
+    }
+    false
+}
+
+/// Returns whether one of the items is a table that has the key.
+fn some_has(items: &Array, key: &str) -> bool
+    ensures { result ≡ some_table (has_key key.now) (array_view items.now) }
+{
+    for value in items {
+        if let Some(table) = value.as_table() {
+            if has_key(table, key) {
+                return true;
+            }
+        }
+    }
+    false
+}
+
+/// Returns whether one of the items is the table of a server that takes no requests.
+fn some_is_nowhere(items: &Array) -> bool
+    ensures { result ≡ some_table is_nowhere (array_view items.now) }
+{
+    for value in items {
+        if let Some(table) = value.as_table() {
+            if !has_key(table, "auth") && !has_key(table, "acct") {
+                return true;
+            }
+        }
+    }
+    false
+}
+
+/// Returns whether some items are tables, and none of these has the key.
+fn none_has(items: &Array, key: &str) -> bool
+    ensures { result ≡ none_has key.now (array_view items.now) }
+{
+    has_table(items) && !some_has(items, key)
+}
+
+/// Returns whether some server takes no requests, or none of them those of a service that is forwarded to them.
+fn lacks_service(forwarded: bool, items: &Array) -> bool
+    ensures { result ≡ lacks_service forwarded (array_view items.now) }
+{
+    some_is_nowhere(items) || none_has(items, "auth") || forwarded && none_has(items, "acct")
+}
+
+/// Returns the same of what a realm has as `server`, if that is an array.
+fn servers_lack(table: &Table, forwarded: bool) -> bool
+    ensures { result ≡ servers_lack forwarded (get_member (codes "server") (table_view table.now)) }
+{
+    match value(table, "server") {
+        Some(value) => match value.as_array() {
+            Some(items) => lacks_service(forwarded, items),
+            None => false,
+        },
+        None => false,
+    }
+}
+
+/// Returns whether a realm's table, or the table of one of its servers or of its `coa_client`s, misses a key, or its
+/// servers miss a service.
 #[tactic(auto, unfolding(crate::specs::Document::realm_misses))]
 fn realm_misses(table: &Table) -> bool
     ensures { result ≡ spec.realm_misses (table_view table.now) }
@@ -177,7 +251,7 @@ fn realm_misses(table: &Table) -> bool
     !has_all(table, &REALM_KEYS)
         || some_misses_within(table, "server", &SERVER_KEYS)
         || some_misses_within(table, "coa_client", &CLIENT_KEYS)
-        || forwards(table) && some_misses_within(table, "server", &ACCOUNTED_KEYS)
+        || servers_lack(table, forwards(table))
 }
 
 /// Returns whether one of the items is a realm's table that misses a key.
@@ -194,7 +268,7 @@ fn some_realm_misses(items: &Array) -> bool
     false
 }
 
-/// The same of the document's realms, if they are an array.
+/// Returns whether the document's realms are an array with a realm's table that misses a key.
 fn realms_miss(table: &Table) -> bool
     ensures { result ≡ within spec.realm_misses (get_member (codes "realm") (table_view table.now)) }
 {

@@ -53,7 +53,7 @@ impl Letters {
     }
 }
 
-/// The value at a key.
+/// Returns the value at a key.
 pub(crate) fn value<'a>(table: &'a Table, key: &str) -> Option<&'a Value>
     ensures { option_map (λ v. view v.now) result ≡ get_member key.now (table_view table.now) }
 {
@@ -71,7 +71,7 @@ pub(crate) fn text_fits(octets: &[u8], most: usize, letters: Letters) -> bool
     letters.admits_all(octets)
 }
 
-/// A text of 1 to `most` octets.
+/// Reads a text of 1 to `most` octets.
 #[tactic(auto, unfolding(crate::specs::Values::text))]
 pub(crate) fn text_of(value: &Value, most: usize, letters: Letters) -> Option<&str>
     ensures { option_copied result ≡ spec.text most (letters_of letters) (view value.now) }
@@ -104,7 +104,7 @@ pub(crate) fn address_of(value: &Value) -> Option<Address>
     Address::from_text(value.as_str()?)
 }
 
-/// The octets of an address of IPv4.
+/// Reads the octets of an address of IPv4.
 #[tactic(auto, unfolding(crate::specs::Values::ipv4))]
 pub(crate) fn ipv4_of(value: &Value) -> Option<[u8; 4]>
     ensures { result ≡ spec.ipv4 (view value.now) }
@@ -112,7 +112,7 @@ pub(crate) fn ipv4_of(value: &Value) -> Option<[u8; 4]>
     Address::from_text(value.as_str()?)?.ipv4_octets()
 }
 
-/// The octets of an address of IPv6.
+/// Reads the octets of an address of IPv6.
 #[tactic(auto, unfolding(crate::specs::Values::ipv6))]
 pub(crate) fn ipv6_of(value: &Value) -> Option<[u8; 16]>
     ensures { result ≡ spec.ipv6 (view value.now) }
@@ -134,7 +134,7 @@ pub(crate) fn endpoint_of(value: &Value) -> Option<Endpoint>
     Endpoint::from_text(value.as_str()?)
 }
 
-/// Of which exchanges lines tell, by a text.
+/// Reads the exchanges of which lines tell from a text.
 #[tactic(auto, unfolding(crate::specs::Values::exchange_lines_in))]
 fn exchange_lines_in(text: &str) -> Option<ExchangeLines>
     ensures { result ≡ spec.exchange_lines_in text.now }
@@ -151,7 +151,7 @@ fn exchange_lines_in(text: &str) -> Option<ExchangeLines>
     None
 }
 
-/// Of which exchanges lines tell: a boolean, or one of three texts.
+/// Reads the exchanges of which lines tell: a boolean, or one of three texts.
 #[tactic(auto, unfolding(crate::specs::Values::exchange_lines))]
 pub(crate) fn exchange_lines_of(value: &Value) -> Option<ExchangeLines>
     ensures { result ≡ spec.exchange_lines (Some (view value.now)) }
@@ -177,6 +177,20 @@ pub(crate) fn accounting_in(text: &str) -> Option<Accounting>
     }
     if text == "drop" {
         return Some(Accounting::Dropped);
+    }
+    None
+}
+
+/// Returns whether the user decides with which server a request's targets begin, by a text.
+#[tactic(auto, unfolding(crate::specs::Values::balance_in))]
+pub(crate) fn balance_in(text: &str) -> Option<bool>
+    ensures { result ≡ spec.balance_in text.now }
+{
+    if text == "order" {
+        return Some(false);
+    }
+    if text == "user" {
+        return Some(true);
     }
     None
 }
@@ -213,7 +227,7 @@ pub(crate) fn seed_of(value: &Value) -> Option<[u8; 32]>
     <[u8; 32] as FromHex>::from_hex(value.as_str()?).ok()
 }
 
-/// An array of 1 to `most` items.
+/// Reads an array of 1 to `most` items.
 #[tactic(auto, using(crate::proofs::ArrayLemmas::item_count_of), unfolding(crate::specs::Values::array_of))]
 pub(crate) fn array_of(value: &Value, most: usize) -> Option<&Array>
     ensures { option_map (λ a. array_view a.now) result ≡ spec.array_of most (view value.now) }

@@ -74,7 +74,7 @@ fn asked_at(door: Door, path: &str) -> Option<ControlRequest> {
     }
 }
 
-/// The methods by which it can be asked for.
+/// Returns the methods by which it can be asked for.
 fn methods(door: Door, asked: ControlRequest) -> HeaderValue {
     match (door, asked) {
         (_, ControlRequest::Stop | ControlRequest::Reload) => HeaderValue::from_static("POST"),
@@ -92,13 +92,13 @@ fn is_right(door: Door, asked: ControlRequest, method: &Method) -> bool {
     }
 }
 
-/// The shard that a query names: `shard=N`.
+/// Reads the shard that a query names: `shard=N`.
 fn shard_of(query: Option<&str>) -> Option<u16> {
     let number = decimal(query?.strip_prefix("shard=")?, 0, 65535)?;
     u16::try_from(number).ok()
 }
 
-/// The order that a path and its query give.
+/// Returns the order that a path and its query give.
 fn order_of(asked: ControlRequest, query: Option<&str>) -> Option<Order> {
     match asked {
         ControlRequest::Metrics => Some(Order::Metrics),
@@ -127,7 +127,7 @@ fn word_of(order: Order) -> &'static str {
     }
 }
 
-/// In which form the body of an answer is.
+/// Returns the form in which the body of an answer is.
 fn kind_of(asked: ControlRequest) -> HeaderValue {
     match asked {
         ControlRequest::Metrics => HeaderValue::from_static("text/plain; version=0.0.4"),
@@ -136,7 +136,7 @@ fn kind_of(asked: ControlRequest) -> HeaderValue {
     }
 }
 
-/// The status of an answer (RFC 9110, section 15).
+/// Returns the status of an answer (RFC 9110, section 15).
 fn status_of(course: Course) -> StatusCode {
     match course {
         Course::Done => StatusCode::OK,
@@ -170,14 +170,14 @@ impl<'d, R> Asker<'d, R> {
         }
     }
 
-    /// The stored steps that the answer has which was given since this was asked last.
+    /// Takes the stored steps of the answer that was given since this was asked last.
     pub fn take_handed(&mut self) -> Option<Handed> {
         self.handed.take()
     }
 }
 
 impl<R: Wait + Log> Asker<'_, R> {
-    /// The desk of its door.
+    /// Returns the desk of its door.
     fn desk(&self) -> &Desk {
         match self.door {
             Door::Metrics => &self.office.metrics,

@@ -47,7 +47,7 @@ pub trait Listener: AsFd + AsRawFd {
     /// The type of connections. It doesn't wait either.
     type Stream: Read + Write + AsRawFd + Drop;
 
-    /// The next connection, or `WouldBlock` where there is none.
+    /// Takes the next connection, or errs with `WouldBlock` where there is none.
     fn next(&self) -> io::Result<Self::Stream>;
 }
 
@@ -100,7 +100,7 @@ fn close<T: Drop>(open: OpenConnection<T>, office: &Office) {
     }
 }
 
-/// The place of the connection that is closed first of all.
+/// Finds the place of the connection that is closed first of all.
 fn quietest<T>(open: &[OpenConnection<T>]) -> usize {
     let mut place = 0;
     let mut least = u64::MAX;
@@ -121,7 +121,7 @@ fn make_room<T: Drop>(open: &mut Vec<OpenConnection<T>>, office: &Office) {
     }
 }
 
-/// The error of a connection that can't be taken; none where there is no further one.
+/// Returns the error of a connection that can't be taken, and `None` where there is no further connection.
 fn hindrance(error: io::Error) -> Option<io::Error> {
     match error.kind() {
         ErrorKind::WouldBlock | ErrorKind::Interrupted | ErrorKind::ConnectionAborted => None,

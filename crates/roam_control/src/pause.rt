@@ -18,7 +18,7 @@ pub struct Pause {
 }
 
 impl Pause {
-    /// Connections are taken.
+    /// Makes the pause in which connections are taken.
     pub fn none() -> Pause
         ensures until { result.until ≡ 0 }
         ensures said { result.next_said ≡ 0 }
@@ -36,7 +36,8 @@ impl Pause {
         self.until <= now
     }
 
-    /// None is taken for a second from this moment on. Answers whether that is to be said: once a minute.
+    /// Begins a pause, in which no connection is taken for a second from this moment on. Answers whether that is to
+    /// be said: once a minute.
     pub fn begin(&mut self, now: u64) -> bool
         ensures said { IsTrue result ↔ (self.old.next_said ≤ now) }
         ensures until { self.new.until ≡ min (2 ^ 64 - 1) (now + 1000) }

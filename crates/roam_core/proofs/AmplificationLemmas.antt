@@ -12,7 +12,8 @@ use Rattle.roam_pending.specs.PlainEntry.{PlainRequest, PlainStanding, PlainEntr
 use Rattle.roam_pending.specs.EntryList.{find_ticket, without}
 use Rattle.roam_pending.specs.Realms.{sent_again, waits_on, with_standing}
 use Rattle.roam_pending.proofs.ChangeLemmas.{found-ticket}
-use Rattle.roam_realm.specs.RealmConfig.{RealmConfig, later_targets}
+use Rattle.roam_realm.specs.RealmConfig.{RealmConfig}
+use Rattle.roam_realm.specs.ServerOrder.{later_targets}
 use Rattle.roam_realm.specs.RealmState.{RealmState, Target, chosen_target}
 use Rattle.roam_realm.specs.Rests.{after_silence, after_choice, signs_of}
 use Rattle.roam_exchange.specs.OnRequest.{packet_to_link, packet_to_requester, forwarded_entry, forwarded_octets, is_reverse, nak_octets}
@@ -46,7 +47,7 @@ more false n m h = omega arith
 module _ (c : RealmConfig) (ends : Ends) (looked : ℕ → Bool) (tries : 1 ≤ c.realm.tries) where
   -- what may follow for an entry whose ticket is looked at, and for all of these
   abbrev pub weight : PlainEntry → ℕ
-  weight e = guard (looked e.ticket) (may_follow c ends e.request.key e.standing)
+  weight e = guard (looked e.ticket) (may_follow c ends e.request e.standing)
 
   abbrev pub follow : List PlainEntry → ℕ
   follow es = sum_over weight es
@@ -69,13 +70,13 @@ module _ (c : RealmConfig) (ends : Ends) (looked : ℕ → Bool) (tries : 1 ≤ 
 
   -- a packet to a target, and what may follow it
   pub forwarded-fits :
-      (now signs : ℕ) (q : PlainRequest) (position ticket m : ℕ) (target : Target) → FitsIn c ends m target.link
+      (now signs : ℕ) (q : PlainRequest) (position ticket m : ℕ) (target : Target) → FitsIn c q ends m target.link
       → counted ends (packet_to_link c target.link (forwarded_octets c q position ticket target) ∷ [])
-      + may_follow c ends q.key (forwarded_entry c now signs q position ticket target).standing
+      + may_follow c ends q (forwarded_entry c now signs q position ticket target).standing
       ≤ c.realm.tries * m + counted_back ends q.key
   forwarded-fits now signs q position ticket m target fits =
       let one = counted_links c ends (target.link ∷ []) in
-      let later = counted_links c ends (later_targets c target.link) in
+      let later = counted_links c ends (later_targets c q target.link) in
       let first = resent c.realm.tries one tries in
       let all = times c.realm.tries one later m fits in
       omega (arith, first, all, to-link target.link (forwarded_octets c q position ticket target))
@@ -115,7 +116,7 @@ module _ (c : RealmConfig) (ends : Ends) (looked : ℕ → Bool) (tries : 1 ≤ 
 
   fail_over-spends :
       (now m : ℕ) (s : RealmState) (e : PlainEntry) (target : Option Target)
-      → ((t : Target) → target ≡ Some t → FitsIn c ends m t.link)
+      → ((t : Target) → target ≡ Some t → FitsIn c e.request ends m t.link)
       → SpendsOf s e m (fail_over c now s e target)
   fail_over-spends now m s e None fits = given_up-spends now m s e
   fail_over-spends now m s e (Some target) fits =
@@ -124,15 +125,15 @@ module _ (c : RealmConfig) (ends : Ends) (looked : ℕ → Bool) (tries : 1 ≤ 
       let octets = forwarded_octets c e.request s.stream_position e.ticket target in
       let step = forwarded-fits now signs e.request s.stream_position e.ticket m target (fits target refl) in
       let split = both (looked e.ticket) (counted ends (packet_to_link c target.link octets ∷ []))
-      (may_follow c ends e.request.key new.standing) (c.realm.tries * m + counted_back ends e.request.key) step in
+      (may_follow c ends e.request new.standing) (c.realm.tries * m + counted_back ends e.request.key) step in
       omega (arith, split, sum-put weight new s.entries)
 
   again-follows :
-      (key : Key) (l : Link) (id : ℕ) (forwarded : List ℕ) (sends_left deadline signs later : ℕ)
+      (q : PlainRequest) (l : Link) (id : ℕ) (forwarded : List ℕ) (sends_left deadline signs later : ℕ)
       (standing : PlainStanding) → standing ≡ waiting l id forwarded sends_left deadline signs → 1 ≤ sends_left
-      → counted ends (packet_to_link c l forwarded ∷ []) + may_follow c ends key (waits_on later standing)
-      ≤ may_follow c ends key standing
-  again-follows key l id forwarded sends_left deadline signs later standing is some =
+      → counted ends (packet_to_link c l forwarded ∷ []) + may_follow c ends q (waits_on later standing)
+      ≤ may_follow c ends q standing
+  again-follows q l id forwarded sends_left deadline signs later standing is some =
       rw is (omega (arith, resent sends_left (counted_links c ends (l ∷ [])) some, to-link l forwarded))
 
   due_standing-spends :
@@ -146,24 +147,24 @@ module _ (c : RealmConfig) (ends : Ends) (looked : ℕ → Bool) (tries : 1 ≤ 
       let replaced = sum-replaced weight again e s.entries refl at in
       let gone = sum-without weight e s.entries at in
       let rests = after_silence c now s.rests l signs in
-      let next = chosen_target c now rests s.cursors (without e.ticket s.entries) (later_targets c l) in
-      let m = counted_links c ends (later_targets c l) in
-      let fits : (t : Target) → next ≡ Some t → FitsIn c ends m t.link =
-      λ t chosen. chosen-holds (FitsIn c ends m) c now rests s.cursors (without e.ticket s.entries) (later_targets c l)
-      t (later-fit c ends l) chosen in
+      let next = chosen_target c now rests s.cursors (without e.ticket s.entries) (later_targets c e.request l) in
+      let m = counted_links c ends (later_targets c e.request l) in
+      let fits : (t : Target) → next ≡ Some t → FitsIn c e.request ends m t.link =
+      λ t chosen. chosen-holds (FitsIn c e.request ends m) c now rests s.cursors (without e.ticket s.entries)
+      (later_targets c e.request l) t (later-fit c e.request ends l) chosen in
       let over = fail_over-spends now m (given_up_at c now l signs s e) e next fits in
-      let might = may_follow c ends e.request.key e.standing in
-      let old : might ≡ may_follow c ends e.request.key (waiting l id forwarded sends_left deadline signs) =
-      ap (may_follow c ends e.request.key) is in
+      let might = may_follow c ends e.request e.standing in
+      let old : might ≡ may_follow c ends e.request (waiting l id forwarded sends_left deadline signs) =
+      ap (may_follow c ends e.request) is in
       let enough = more b (c.realm.tries * m + counted_back ends e.request.key) might (omega (arith, old)) in
       elim (cases_Bool (ltb 0 sends_left)) [
         | inl y ↦
             let some : 1 ≤ sends_left = grind (arith, nat_tests, y) in
-            let step = again-follows e.request.key l id forwarded sends_left deadline signs (now + c.realm.wait)
+            let step = again-follows e.request l id forwarded sends_left deadline signs (now + c.realm.wait)
             e.standing
             is some in
             let split = both b (counted ends (packet_to_link c l forwarded ∷ []))
-            (may_follow c ends e.request.key (waits_on (now + c.realm.wait) e.standing)) might step in
+            (may_follow c ends e.request (waits_on (now + c.realm.wait) e.standing)) might step in
             rw y (omega (arith, split, replaced))
         | inr n ↦ rw n (omega (arith, over, gone, enough))
       ]

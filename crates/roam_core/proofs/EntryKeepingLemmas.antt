@@ -17,7 +17,8 @@ use Rattle.roam_pending.specs.DueOrder.{due_list}
 use Rattle.roam_pending.specs.PlainEntry.{PlainRequest, PlainStanding, PlainEntry, waiting, done, has_key, has_ticket}
 use Rattle.roam_pending.specs.EntryList.{find_client, find_link, find_ticket, first_done, put, without, without_client}
 use Rattle.roam_pending.specs.Realms.{sent_again, with_standing}
-use Rattle.roam_realm.specs.RealmConfig.{RealmConfig, later_targets, link_secret, seal_required}
+use Rattle.roam_realm.specs.RealmConfig.{RealmConfig, link_secret, seal_required}
+use Rattle.roam_realm.specs.ServerOrder.{later_targets}
 use Rattle.roam_realm.specs.RealmState.{RealmState, Target, chosen_target, with_rests}
 use Rattle.roam_realm.specs.Rests.{after_silence, after_choice, signs_of}
 use Rattle.roam_exchange.specs.Turn.{Turn, state_after}
@@ -39,8 +40,8 @@ abbrev pub all_ends : Ends
 all_ends place to = true
 
 -- a link is one of some, and its later targets are among them
-abbrev pub IsOneOf : RealmConfig → List Link → Link → Type 0
-IsOneOf c links l = FitsIn c all_ends (counted_links c all_ends links) l
+abbrev pub IsOneOf : RealmConfig → PlainRequest → List Link → Link → Type 0
+IsOneOf c q links l = FitsIn c q all_ends (counted_links c all_ends links) l
 
 module _ (c : RealmConfig) (Kept : List PlainEntry → Type 0) (Good : PlainEntry → Type 0)
     (less : (p : PlainEntry → Bool) (es : List PlainEntry) → Kept es → Kept (filter p es))
@@ -53,7 +54,7 @@ module _ (c : RealmConfig) (Kept : List PlainEntry → Type 0) (Good : PlainEntr
 
   abbrev pub NewIsGood : ℕ → RealmState → PlainRequest → Type 0
   NewIsGood now s q =
-      (target : Target) (signs : ℕ) → IsOneOf c (targets c q) target.link
+      (target : Target) (signs : ℕ) → IsOneOf c q (targets c q) target.link
       → Good (forwarded_entry c now signs q s.stream_position s.ticket target)
 
   make_way-keeps :
@@ -70,7 +71,7 @@ module _ (c : RealmConfig) (Kept : List PlainEntry → Type 0) (Good : PlainEntr
 
   at_target-keeps :
       (now : ℕ) (s : RealmState) (rests : List Rest) (es : List PlainEntry) (q : PlainRequest) (target : Option Target)
-      → Kept s.entries → Kept es → ((t : Target) → target ≡ Some t → IsOneOf c (targets c q) t.link)
+      → Kept s.entries → Kept es → ((t : Target) → target ≡ Some t → IsOneOf c q (targets c q) t.link)
       → NewIsGood now s q → Keeps s (at_target c now (with_rests s rests) es q target)
   at_target-keeps now s rests es q None old kept fits new = old
   at_target-keeps now s rests es q (Some target) old kept fits new =
@@ -86,8 +87,8 @@ module _ (c : RealmConfig) (Kept : List PlainEntry → Type 0) (Good : PlainEntr
   nak_or_new-keeps now s q None old new =
       let es = without_client q.key s.entries in
       let chosen = new_target c now s es q (targets c q) in
-      let fits : (t : Target) → chosen ≡ Some t → IsOneOf c (targets c q) t.link =
-      λ t at. new-holds (IsOneOf c (targets c q)) c now s es q (targets c q) t (targets-fit c all_ends q) at in
+      let fits : (t : Target) → chosen ≡ Some t → IsOneOf c q (targets c q) t.link =
+      λ t at. new-holds (IsOneOf c q (targets c q)) c now s es q (targets c q) t (targets-fit c q all_ends) at in
       either (Keeps s) (eqb s.ticket (2 ^ 63)) _ _ old
       (either (Keeps s) (share_taken c es q) _ _ old
       (at_target-keeps now s _ es q chosen old (less (λ e. not (has_key q.key e)) s.entries old) fits new))
@@ -165,7 +166,8 @@ module _ (c : RealmConfig) (Kept : List PlainEntry → Type 0) (Good : PlainEntr
     pub over :
         (e : PlainEntry) (l : Link) (id : ℕ) (forwarded : List ℕ) (sends_left deadline signs anew position : ℕ)
         (target : Target)
-        → e.standing ≡ waiting l id forwarded sends_left deadline signs → IsOneOf c (later_targets c l) target.link
+        → e.standing ≡ waiting l id forwarded sends_left deadline signs
+        → IsOneOf c e.request (later_targets c e.request l) target.link
         → Good e → Good (forwarded_entry c now anew e.request position e.ticket target)
     pub answered : DoneIsGood now
 
@@ -181,7 +183,7 @@ module _ (c : RealmConfig) (Kept : List PlainEntry → Type 0) (Good : PlainEntr
       (sends_left deadline signs : ℕ)
       (target : Option Target)
       → TickIsGood now → e.standing ≡ waiting l id forwarded sends_left deadline signs
-      → ((t : Target) → target ≡ Some t → IsOneOf c (later_targets c l) t.link)
+      → ((t : Target) → target ≡ Some t → IsOneOf c e.request (later_targets c e.request l) t.link)
       → Good e → Kept s.entries → KeepsIn (fail_over c now s e target)
   fail_over-keeps now s e l id forwarded sends_left deadline signs None tick is fits good old =
       either KeepsIn (is_reverse e.request) _ _
@@ -200,10 +202,10 @@ module _ (c : RealmConfig) (Kept : List PlainEntry → Type 0) (Good : PlainEntr
   due_standing-keeps now s e (waiting l id forwarded sends_left deadline signs) tick is good old =
       let es = without e.ticket s.entries in
       let rests = after_silence c now s.rests l signs in
-      let next = chosen_target c now rests s.cursors es (later_targets c l) in
-      let fits : (t : Target) → next ≡ Some t → IsOneOf c (later_targets c l) t.link =
-      λ t at. chosen-holds (IsOneOf c (later_targets c l)) c now rests s.cursors es (later_targets c l) t
-      (later-fit c all_ends l) at in
+      let next = chosen_target c now rests s.cursors es (later_targets c e.request l) in
+      let fits : (t : Target) → next ≡ Some t → IsOneOf c e.request (later_targets c e.request l) t.link =
+      λ t at. chosen-holds (IsOneOf c e.request (later_targets c e.request l)) c now rests s.cursors es
+      (later_targets c e.request l) t (later-fit c e.request all_ends l) at in
       let others = less (λ x. not (has_ticket e.ticket x)) s.entries old in
       elim (cases_Bool (ltb 0 sends_left)) [
         | inl y ↦

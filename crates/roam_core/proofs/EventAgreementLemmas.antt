@@ -15,7 +15,8 @@ use Rattle.roam_pending.specs.DueOrder.{due_list}
 use Rattle.roam_pending.specs.EntryList.{find_ticket, without}
 use Rattle.roam_pending.specs.PlainEntry.{PlainEntry, PlainStanding, waiting, done}
 use Rattle.roam_sessions.specs.declared.error_cause.TheConstants.{OTHER_PROXY_PROCESSING_ERROR}
-use Rattle.roam_realm.specs.RealmConfig.{RealmConfig, later_targets, realm_config}
+use Rattle.roam_realm.specs.RealmConfig.{RealmConfig, realm_config}
+use Rattle.roam_realm.specs.ServerOrder.{later_targets}
 use Rattle.roam_realm.specs.RealmState.{RealmState, Target, chosen_target}
 use Rattle.roam_realm.specs.Rests.{after_silence}
 use Rattle.roam_exchange.specs.declared.happening.Became.{Became}
@@ -103,7 +104,7 @@ module _ (lines : ExchangeLines) (c : RealmConfig) (parts : ℕ → RealmConfig)
   due_standing-agrees s e (done reply deadline from) is = refl
   due_standing-agrees s e (waiting l id asked sends_left deadline signs) is =
       let next = chosen_target c now (after_silence c now s.rests l signs) s.cursors (without e.ticket s.entries)
-      (later_targets c l) in
+      (later_targets c e.request l) in
       let gone = given_up_at c now l signs s e in
       let waited : Became → PlainWaited = λ by.
       waited_so e l sends_left deadline (due_octets lines e.request.octets by) in

@@ -13,7 +13,8 @@ use Rattle.roam_pending.specs.Realms.{waits_on}
 use Rattle.roam_pending.proofs.TestLemmas.{all-filter}
 use Rattle.roam_pending.proofs.OrderLemmas.{all-put, order-filter, order-put}
 use Rattle.roam_pending.proofs.DueListLemmas.{in-due}
-use Rattle.roam_realm.specs.RealmConfig.{RealmConfig, later_targets}
+use Rattle.roam_realm.specs.RealmConfig.{RealmConfig}
+use Rattle.roam_realm.specs.ServerOrder.{later_targets}
 use Rattle.roam_realm.specs.RealmState.{RealmState, opening}
 use Rattle.roam_exchange.specs.Turn.{state_after}
 use Rattle.roam_exchange.specs.OnRequest.{targets}
@@ -72,17 +73,18 @@ counted-all : (c : RealmConfig) (links : List Link) → counted_links c all_ends
 counted-all c links = ap (λ (ls : List Link). length (one_each ls)) (all-pass c links)
 
 -- how many packets may still leave for an entry
-abbrev left_at : RealmConfig → Link → ℕ → ℕ
-left_at c l sends_left = sends_left + c.realm.tries * length (one_each (later_targets c l))
+abbrev left_at : RealmConfig → PlainRequest → Link → ℕ → ℕ
+left_at c q l sends_left = sends_left + c.realm.tries * length (one_each (later_targets c q l))
 
 -- one of some targets has fewer packets left than `tries` for each
-pub left-fewer : (c : RealmConfig) (links : List Link) (l : Link) → 1 ≤ c.realm.tries → IsOneOf c links l →
-    left_at c l (c.realm.tries - 1) + 1 ≤ c.realm.tries * length (one_each links)
-left-fewer c links l tries fits =
+pub left-fewer :
+    (c : RealmConfig) (q : PlainRequest) (links : List Link) (l : Link) → 1 ≤ c.realm.tries → IsOneOf c q links l →
+    left_at c q l (c.realm.tries - 1) + 1 ≤ c.realm.tries * length (one_each links)
+left-fewer c q links l tries fits =
     let all = counted-all c links in
-    let later = counted-all c (later_targets c l) in
+    let later = counted-all c (later_targets c q l) in
     let one = counted-all c (l ∷ []) in
-    let further = length (one_each (later_targets c l)) in
+    let further = length (one_each (later_targets c q l)) in
     let within : 1 + further ≤ length (one_each links) = omega (arith, all, later, one, fits) in
     let product = times c.realm.tries 1 further (length (one_each links)) within in
     omega (arith, product)
@@ -90,17 +92,17 @@ left-fewer c links l tries fits =
 -- of a ticket, and the moment until which its entry may wait
 module _ (c : RealmConfig) (gap ticket until : ℕ) (tries : 1 ≤ c.realm.tries) where
   -- it waits beyond the last tick, and not so long that its sends would last beyond that moment
-  pub record Waits (tick : ℕ) (l : Link) (sends_left deadline : ℕ) : Type 0 where
+  pub record Waits (tick : ℕ) (q : PlainRequest) (l : Link) (sends_left deadline : ℕ) : Type 0 where
     pub beyond : tick < deadline
-    pub lasts : deadline + gap + left_at c l sends_left * (c.realm.wait + gap) ≤ until
+    pub lasts : deadline + gap + left_at c q l sends_left * (c.realm.wait + gap) ≤ until
 
-  abbrev pub Stands : ℕ → PlainStanding → Type 0
-  Stands tick (waiting l id forwarded sends_left deadline signs) = Waits tick l sends_left deadline
-  Stands tick (done reply deadline from) = Unit {0}
+  abbrev pub Stands : ℕ → PlainRequest → PlainStanding → Type 0
+  Stands tick q (waiting l id forwarded sends_left deadline signs) = Waits tick q l sends_left deadline
+  Stands tick q (done reply deadline from) = Unit {0}
 
   -- if it has the ticket
   abbrev pub IsInTime : ℕ → PlainEntry → Type 0
-  IsInTime tick e = e.ticket ≡ ticket → Stands tick e.standing
+  IsInTime tick e = e.ticket ≡ ticket → Stands tick e.request e.standing
 
   abbrev pub AllInTime : ℕ → List PlainEntry → Type 0
   AllInTime tick es = AllByRecursion (IsInTime tick) es
@@ -117,27 +119,28 @@ module _ (c : RealmConfig) (gap ticket until : ℕ) (tries : 1 ≤ c.realm.tries
   all-each tick e es h at = all-in (IsInTime tick) es e h at
 
   again-stands :
-      (tick now : ℕ) (l : Link) (id : ℕ) (forwarded : List ℕ) (sends_left deadline signs : ℕ)
+      (tick now : ℕ) (q : PlainRequest) (l : Link) (id : ℕ) (forwarded : List ℕ) (sends_left deadline signs : ℕ)
       (standing : PlainStanding)
       → tick ≤ now → now ≤ tick + gap → 1 ≤ c.realm.wait
-      → standing ≡ waiting l id forwarded sends_left deadline signs → 1 ≤ sends_left → Stands tick standing
-      → Stands tick (waits_on (now + c.realm.wait) standing)
-  again-stands tick now l id forwarded sends_left deadline signs standing not_back soon wait is some stands =
-      let old : Waits tick l sends_left deadline = rw is at stands in
-      let fewer = turns (left_at c l (sends_left - 1)) (left_at c l sends_left) (c.realm.wait + gap) (omega arith) in
+      → standing ≡ waiting l id forwarded sends_left deadline signs → 1 ≤ sends_left → Stands tick q standing
+      → Stands tick q (waits_on (now + c.realm.wait) standing)
+  again-stands tick now q l id forwarded sends_left deadline signs standing not_back soon wait is some stands =
+      let old : Waits tick q l sends_left deadline = rw is at stands in
+      let fewer = turns (left_at c q l (sends_left - 1)) (left_at c q l sends_left) (c.realm.wait + gap)
+      (omega arith) in
       rw is (record { beyond = omega arith; lasts = omega (arith, fewer, old.beyond, old.lasts) })
 
   over-stands :
-      (tick now : ℕ) (l : Link) (id : ℕ) (forwarded : List ℕ) (sends_left deadline signs : ℕ)
+      (tick now : ℕ) (q : PlainRequest) (l : Link) (id : ℕ) (forwarded : List ℕ) (sends_left deadline signs : ℕ)
       (standing : PlainStanding)
       (next : Link)
       → tick ≤ now → now ≤ tick + gap → 1 ≤ c.realm.wait
-      → standing ≡ waiting l id forwarded sends_left deadline signs → IsOneOf c (later_targets c l) next
-      → Stands tick standing → Waits tick next (c.realm.tries - 1) (now + c.realm.wait)
-  over-stands tick now l id forwarded sends_left deadline signs standing next not_back soon wait is fits stands =
-      let old : Waits tick l sends_left deadline = rw is at stands in
-      let fewer = left-fewer c (later_targets c l) next tries fits in
-      let less = turns (left_at c next (c.realm.tries - 1)) (left_at c l sends_left) (c.realm.wait + gap)
+      → standing ≡ waiting l id forwarded sends_left deadline signs → IsOneOf c q (later_targets c q l) next
+      → Stands tick q standing → Waits tick q next (c.realm.tries - 1) (now + c.realm.wait)
+  over-stands tick now q l id forwarded sends_left deadline signs standing next not_back soon wait is fits stands =
+      let old : Waits tick q l sends_left deadline = rw is at stands in
+      let fewer = left-fewer c q (later_targets c q l) next tries fits in
+      let less = turns (left_at c q next (c.realm.tries - 1)) (left_at c q l sends_left) (c.realm.wait + gap)
       (omega (arith, fewer)) in
       record { beyond = omega arith; lasts = omega (arith, less, old.beyond, old.lasts) }
 
@@ -147,18 +150,20 @@ module _ (c : RealmConfig) (gap ticket until : ℕ) (tries : 1 ≤ c.realm.tries
       → TickIsGood c (AllInTime tick) (IsInTime tick) (all-less tick) (all-more tick) (all-each tick) now
   tick-good tick now not_back soon wait = record {
     again = λ e l id forwarded k d signs is some good at.
-        again-stands tick now l id forwarded k d signs e.standing not_back soon wait is some (good at);
+        again-stands tick now e.request l id forwarded k d signs e.standing not_back soon wait is some (good at);
     over = λ e l id forwarded k d signs anew position target is fits good at.
-        over-stands tick now l id forwarded k d signs e.standing target.link not_back soon wait is fits (good at);
+        over-stands tick now e.request l id forwarded k d signs e.standing target.link not_back soon wait is fits
+        (good at);
     answered = λ e octets from at. tt;
   }
 
   -- what isn't due waits beyond the moment of the tick
-  beyond-now : (tick now : ℕ) (standing : PlainStanding) → now < deadline_of standing → Stands tick standing →
-      Stands now standing
-  beyond-now tick now (waiting l id forwarded sends_left deadline signs) later stands =
+  beyond-now : (tick now : ℕ) (q : PlainRequest) (standing : PlainStanding) → now < deadline_of standing →
+      Stands tick q standing →
+      Stands now q standing
+  beyond-now tick now q (waiting l id forwarded sends_left deadline signs) later stands =
       record { beyond = later; lasts = stands.lasts }
-  beyond-now tick now (done reply deadline from) later stands = tt
+  beyond-now tick now q (done reply deadline from) later stands = tt
 
   not-due :
       (now : ℕ) (e : PlainEntry) (es : List PlainEntry) → due_list now es ≡ [] → IsIn e es
@@ -182,7 +187,7 @@ module _ (c : RealmConfig) (gap ticket until : ℕ) (tries : 1 ≤ c.realm.tries
       (tick-good tick now not_back soon wait) old in
       let none = none-due_after c now s wait order in
       in-all (IsInTime now) es (λ e at is.
-      beyond-now tick now e.standing (not-due now e es none at) (all-each tick e es kept at is))
+      beyond-now tick now e.request e.standing (not-due now e es none at) (all-each tick e es kept at is))
 
   -- an event that comes in time keeps it, of a ticket that was given
   event-in-time :
@@ -202,11 +207,11 @@ module _ (c : RealmConfig) (gap ticket until : ℕ) (tries : 1 ≤ c.realm.tries
 
   -- an entry that waits at the end does so in time
   at-end :
-      (tick before : ℕ) (standing : PlainStanding) → before ≤ tick + gap → until ≤ before
-      → Stands tick standing → stands_done standing ≡ true
-  at-end tick before (waiting l id forwarded sends_left deadline signs) soon over stands =
+      (tick before : ℕ) (q : PlainRequest) (standing : PlainStanding) → before ≤ tick + gap → until ≤ before
+      → Stands tick q standing → stands_done standing ≡ true
+  at-end tick before q (waiting l id forwarded sends_left deadline signs) soon over stands =
       absurd (omega (arith, stands.beyond, stands.lasts))
-  at-end tick before (done reply deadline from) soon over stands = refl
+  at-end tick before q (done reply deadline from) soon over stands = refl
 
   last-later : (tick before : ℕ) (es : List RealmEvent) → AreInTime gap tick before es → before ≤ last_moment before es
   last-later tick before [] h = omega arith
@@ -233,7 +238,7 @@ module _ (c : RealmConfig) (gap ticket until : ℕ) (tries : 1 ≤ c.realm.tries
       → until ≤ last_moment before es → IsIn e (one_realm_run c s es).state.entries → e.ticket ≡ ticket
       → is_done e ≡ true
   run-in-time tick before s [] e from soon ordered late wait given order old over at is =
-      at-end tick before e.standing soon over (all-each tick e s.entries old at is)
+      at-end tick before e.request e.standing soon over (all-each tick e s.entries old at is)
   run-in-time tick before s (x ∷ xs) e from soon ordered late wait given order old over at is =
       let next = state_after s (on_event c s x) in
       let later = last-later (last_tick tick x) (moment_of x) xs ordered.2 in
@@ -276,8 +281,8 @@ begins c start first came named q gap tries wait =
     request-keeps c (AllInTime c gap s.ticket until tries came) Good (all-less c gap s.ticket until tries came)
     (all-more c gap s.ticket until tries came) (all-each c gap s.ticket until tries came) came s named q old
     (λ target signs fits at.
-    let fewer = left-fewer c (targets c q) target.link tries fits in
-    let less = turns (left_at c target.link (c.realm.tries - 1)) (c.realm.tries * length (one_each (targets c q)))
+    let fewer = left-fewer c q (targets c q) target.link tries fits in
+    let less = turns (left_at c q target.link (c.realm.tries - 1)) (c.realm.tries * length (one_each (targets c q)))
     (c.realm.wait + gap) fewer in
     record { beyond = omega arith; lasts = omega (arith, less) })
 

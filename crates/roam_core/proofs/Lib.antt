@@ -1,3 +1,4 @@
+pub mod ApartLemmas
 pub mod KeptLemmas
 pub mod PacketLemmas
 pub mod SentLemmas

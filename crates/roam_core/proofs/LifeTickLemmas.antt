@@ -18,7 +18,8 @@ use Rattle.roam_pending.proofs.TestLemmas.{all-append, all-filter, all-find, all
 use Rattle.roam_pending.proofs.OrderLemmas.{all-put}
 use Rattle.roam_pending.proofs.ChangeLemmas.{find-passes}
 use Rattle.roam_admission.specs.Admission.{PlainOut}
-use Rattle.roam_realm.specs.RealmConfig.{RealmConfig, later_targets}
+use Rattle.roam_realm.specs.RealmConfig.{RealmConfig}
+use Rattle.roam_realm.specs.ServerOrder.{later_targets}
 use Rattle.roam_realm.specs.Rests.{after_silence, after_choice, signs_of}
 use Rattle.roam_realm.specs.RealmState.{RealmState, Target, chosen_target}
 use Rattle.roam_exchange.specs.Turn.{packets_of}
@@ -86,8 +87,7 @@ module _ (b : Stage) (before : List Happening) (at : Stage) (is_at : stage_then 
   }
 
   -- what the tick sends for it, to another target
-  abbrev over-forwarded :
-      (e : PlainEntry) (position : ℕ) (target : Target) (known : IsKnown e)
+  abbrev over-forwarded : (e : PlainEntry) (position : ℕ) (target : Target) (known : IsKnown e)
       → ForwardsIn b c e.request position e.ticket target before (tick_came now)
       → IsForwardedIn b life c known.came e.request position e.ticket target
   over-forwarded e position target known forwards = record {
@@ -249,7 +249,7 @@ module _ (b : Stage) (before : List Happening) (at : Stage) (is_at : stage_then 
       let stays : PlainEntry → Bool = λ x. not (has_ticket e.ticket x) in
       let others = all-filter IsKnown stays s.entries kept in
       let next = chosen_target c now (after_silence c now s.rests l signs) s.cursors
-      (without e.ticket s.entries) (later_targets c l) in
+      (without e.ticket s.entries) (later_targets c e.request l) in
       elim (cases_Bool (ltb 0 sends_left)) [
         | inl y ↦
             let out : AreSentIn b before (tick_came now) (packet_to_link c l forwarded ∷ []) = rw y at sent in

@@ -9,7 +9,8 @@ use Rattle.roam_pending.specs.EntryList.{put}
 use Rattle.roam_pending.specs.Realms.{waits_on}
 use Rattle.roam_pending.proofs.TestLemmas.{all-filter}
 use Rattle.roam_pending.proofs.OrderLemmas.{all-put}
-use Rattle.roam_realm.specs.RealmConfig.{RealmConfig, later_targets}
+use Rattle.roam_realm.specs.RealmConfig.{RealmConfig}
+use Rattle.roam_realm.specs.ServerOrder.{later_targets}
 use Rattle.roam_realm.specs.RealmState.{RealmState}
 use Rattle.roam_exchange.specs.Turn.{state_after}
 use Rattle.roam_exchange.specs.OnRequest.{targets}
@@ -39,42 +40,44 @@ module _ (c : RealmConfig) (Good : PlainEntry → Type 0) where
 -- of a ticket, and the moment until which its entry may wait
 module _ (c : RealmConfig) (gap ticket until : ℕ) (tries : 1 ≤ c.realm.tries) where
   -- it isn't overdue by more than the gap, and doesn't wait so long that its sends would last beyond that moment
-  pub record StandsAt (now : ℕ) (standing : PlainStanding) : Type 0 where
+  pub record StandsAt (now : ℕ) (q : PlainRequest) (standing : PlainStanding) : Type 0 where
     pub on_time : stands_done standing ≡ false → now ≤ deadline_of standing + gap
-    pub lasts : waits_until c gap standing ≤ until
+    pub lasts : waits_until c gap q standing ≤ until
 
   abbrev IsGood : ℕ → PlainEntry → Type 0
-  IsGood now e = e.ticket ≡ ticket → StandsAt now e.standing
+  IsGood now e = e.ticket ≡ ticket → StandsAt now e.request e.standing
 
-  answered : (now : ℕ) (reply : List ℕ) (deadline : ℕ) (from : Option Link)
-      → StandsAt now (done reply deadline from)
-  answered now reply deadline from = record {
+  answered : (now : ℕ) (q : PlainRequest) (reply : List ℕ) (deadline : ℕ) (from : Option Link)
+      → StandsAt now q (done reply deadline from)
+  answered now q reply deadline from = record {
     on_time = λ waits. absurd (let bad : true ≡ false = waits in cc);
     lasts = omega arith;
   }
 
   again-stands :
-      (now : ℕ) (l : Link) (id : ℕ) (octets : List ℕ) (sends_left deadline signs : ℕ) (standing : PlainStanding)
-      → standing ≡ waiting l id octets sends_left deadline signs → 1 ≤ sends_left → StandsAt now standing
-      → StandsAt now (waits_on (now + c.realm.wait) standing)
-  again-stands now l id octets sends_left deadline signs standing is some stands =
-      let old : StandsAt now (waiting l id octets sends_left deadline signs) = rw is at stands in
+      (now : ℕ) (q : PlainRequest) (l : Link) (id : ℕ) (octets : List ℕ) (sends_left deadline signs : ℕ)
+      (standing : PlainStanding)
+      → standing ≡ waiting l id octets sends_left deadline signs → 1 ≤ sends_left → StandsAt now q standing
+      → StandsAt now q (waits_on (now + c.realm.wait) standing)
+  again-stands now q l id octets sends_left deadline signs standing is some stands =
+      let old : StandsAt now q (waiting l id octets sends_left deadline signs) = rw is at stands in
       let soon : now ≤ deadline + gap = old.on_time refl in
-      let fewer = turns (packets_left c l (sends_left - 1)) (packets_left c l sends_left) (c.realm.wait + gap)
+      let fewer = turns (packets_left c q l (sends_left - 1)) (packets_left c q l sends_left) (c.realm.wait + gap)
       (omega (arith, some)) in
       rw is (record { on_time = λ waits. omega arith; lasts = omega (arith, fewer, soon, old.lasts) })
 
   over-stands :
-      (now : ℕ) (l : Link) (id : ℕ) (octets : List ℕ) (sends_left deadline signs : ℕ) (standing : PlainStanding)
+      (now : ℕ) (q : PlainRequest) (l : Link) (id : ℕ) (octets : List ℕ) (sends_left deadline signs : ℕ)
+      (standing : PlainStanding)
       (next : Link) (jd : ℕ) (onward : List ℕ) (count : ℕ)
-      → standing ≡ waiting l id octets sends_left deadline signs → IsOneOf c (later_targets c l) next
-      → StandsAt now standing
-      → StandsAt now (waiting next jd onward (c.realm.tries - 1) (now + c.realm.wait) count)
-  over-stands now l id octets sends_left deadline signs standing next jd onward count is fits stands =
-      let old : StandsAt now (waiting l id octets sends_left deadline signs) = rw is at stands in
+      → standing ≡ waiting l id octets sends_left deadline signs → IsOneOf c q (later_targets c q l) next
+      → StandsAt now q standing
+      → StandsAt now q (waiting next jd onward (c.realm.tries - 1) (now + c.realm.wait) count)
+  over-stands now q l id octets sends_left deadline signs standing next jd onward count is fits stands =
+      let old : StandsAt now q (waiting l id octets sends_left deadline signs) = rw is at stands in
       let soon : now ≤ deadline + gap = old.on_time refl in
-      let fewer = left-fewer c (later_targets c l) next tries fits in
-      let less = turns (packets_left c next (c.realm.tries - 1)) (packets_left c l sends_left) (c.realm.wait + gap)
+      let fewer = left-fewer c q (later_targets c q l) next tries fits in
+      let less = turns (packets_left c q next (c.realm.tries - 1)) (packets_left c q l sends_left) (c.realm.wait + gap)
       (omega (arith, fewer)) in
       record { on_time = λ waits. omega arith; lasts = omega (arith, less, soon, old.lasts) }
 
@@ -102,22 +105,24 @@ module _ (c : RealmConfig) (gap ticket until : ℕ) (tries : 1 ≤ c.realm.tries
       let kept = tick-keeps c (AllGood c Good) Good (all-less c Good) (all-more c Good) (all-each c Good) now s
       (record {
         again = λ e l id octets k d signs is some good at.
-            again-stands now l id octets k d signs e.standing is some (good at);
+            again-stands now e.request l id octets k d signs e.standing is some (good at);
         over = λ e l id octets k d signs anew position target is fits good at.
-            over-stands now l id octets k d signs e.standing target.link target.id _ anew is fits (good at);
-        answered = λ e octets from at. answered now octets _ from;
+            over-stands now e.request l id octets k d signs e.standing target.link target.id _ anew is fits
+            (good at);
+        answered = λ e octets from at. answered now e.request octets _ from;
       }) both in
       let es = (state_after s (on_event c s (tick_came now))).entries in
       in-all (LastsUntil c gap ticket until) es (λ e at is. (all-in Good es e kept at is).lasts)
 
   -- one that waits where a later event finds it does so in time
   found-done :
-      (later : ℕ) (standing : PlainStanding) → (stands_done standing ≡ false → later ≤ deadline_of standing + gap)
-      → waits_until c gap standing ≤ until → until < later → stands_done standing ≡ true
-  found-done later (waiting l id octets sends_left deadline signs) soon lasts over =
+      (later : ℕ) (q : PlainRequest) (standing : PlainStanding)
+      → (stands_done standing ≡ false → later ≤ deadline_of standing + gap)
+      → waits_until c gap q standing ≤ until → until < later → stands_done standing ≡ true
+  found-done later q (waiting l id octets sends_left deadline signs) soon lasts over =
       let there = soon refl in
       absurd (omega (arith, there, lasts, over))
-  found-done later (done reply deadline from) soon lasts over = refl
+  found-done later q (done reply deadline from) soon lasts over = refl
 
   pub run-lasts :
       (s : RealmState) (before : List RealmEvent) (next : RealmEvent) (e : PlainEntry) → ticket < s.ticket
@@ -125,7 +130,7 @@ module _ (c : RealmConfig) (gap ticket until : ℕ) (tries : 1 ≤ c.realm.tries
       → AreOnTime c gap s (before ++ next ∷ []) → until < moment_of next
       → IsIn e (one_realm_run c s before).state.entries → e.ticket ≡ ticket → is_done e ≡ true
   run-lasts s [] next e given old times over at is =
-      found-done (moment_of next) e.standing (all-in (IsOnTime gap (moment_of next)) s.entries e times.0 at)
+      found-done (moment_of next) e.request e.standing (all-in (IsOnTime gap (moment_of next)) s.entries e times.0 at)
       (all-in (LastsUntil c gap ticket until) s.entries e old at is) over
   run-lasts s (x ∷ xs) next e given old times over at is =
       let after = state_after s (on_event c s x) in
@@ -149,8 +154,8 @@ begins-lasting c s came named q gap tries below =
     absurd (omega (arith, under, is))) in
     request-keeps c (AllGood c Good) Good (all-less c Good) (all-more c Good) (all-each c Good) came s named q old
     (λ target signs fits at.
-    let fewer = left-fewer c (targets c q) target.link tries fits in
-    let less = turns (packets_left c target.link (c.realm.tries - 1))
+    let fewer = left-fewer c q (targets c q) target.link tries fits in
+    let less = turns (packets_left c q target.link (c.realm.tries - 1))
     (c.realm.tries * length (one_each (targets c q))) (c.realm.wait + gap) fewer in
     omega (arith, less))
 

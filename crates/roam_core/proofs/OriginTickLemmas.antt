@@ -12,7 +12,8 @@ use Rattle.roam_pending.specs.Realms.{sent_again, waits_on, with_standing}
 use Rattle.roam_sessions.specs.declared.error_cause.TheConstants.{OTHER_PROXY_PROCESSING_ERROR}
 use Rattle.roam_pending.proofs.TestLemmas.{all-append, all-filter, all-find, all-weaker}
 use Rattle.roam_pending.proofs.OrderLemmas.{all-put}
-use Rattle.roam_realm.specs.RealmConfig.{RealmConfig, later_targets}
+use Rattle.roam_realm.specs.RealmConfig.{RealmConfig}
+use Rattle.roam_realm.specs.ServerOrder.{later_targets}
 use Rattle.roam_realm.specs.Rests.{after_silence, after_choice, signs_of}
 use Rattle.roam_realm.specs.RealmState.{RealmState, Target, chosen_target, with_rests}
 use Rattle.roam_exchange.specs.Turn.{packets_of}
@@ -43,8 +44,7 @@ module _ (c : RealmConfig) (start : Start) (before : List RealmEvent) (now : ℕ
     pub entries : AllByRecursion IsKnown p.state.entries
 
   -- what the tick does for a held entry
-  at-tick :
-      (e : PlainEntry) (known : IsKnown e) (Does : List RealmEvent → RealmEvent → Type 0)
+  at-tick : (e : PlainEntry) (known : IsKnown e) (Does : List RealmEvent → RealmEvent → Type 0)
       → Does before (tick_came now)
       → AtLaterTick c start known.request.first known.request.asked_at known.request.named e.request
       (known.request.rest ++ tick_came now ∷ []) e.ticket Does
@@ -60,8 +60,7 @@ module _ (c : RealmConfig) (start : Start) (before : List RealmEvent) (now : ℕ
       }
 
   -- what the tick sends for it, to another target
-  over-forwarded :
-      (e : PlainEntry) (position : ℕ) (target : Target) → IsKnown e
+  over-forwarded : (e : PlainEntry) (position : ℕ) (target : Target) → IsKnown e
       → Forwards c start e.request position e.ticket target before (tick_came now)
       → IsForwarded c start (before ++ tick_came now ∷ []) e.request position e.ticket target
   over-forwarded e position target known forwards =
@@ -86,8 +85,7 @@ module _ (c : RealmConfig) (start : Start) (before : List RealmEvent) (now : ℕ
     given_up = at-tick e known (λ bs x. IsSentBy c start bs x (nak_out e)) sent;
   })
 
-  once_refused-keeps :
-      (s : RealmState) (e : PlainEntry)
+  once_refused-keeps : (s : RealmState) (e : PlainEntry)
       → AllByRecursion IsKnown s.entries → IsKnown e → is_reverse e.request ≡ true
       → IsSentBy c start before (tick_came now) (nak_out e)
       → AllByRecursion IsKnown
@@ -201,7 +199,7 @@ module _ (c : RealmConfig) (start : Start) (before : List RealmEvent) (now : ℕ
       let stays : PlainEntry → Bool = λ x. not (has_ticket e.ticket x) in
       let others = all-filter IsKnown stays s.entries kept in
       let next = chosen_target c now (after_silence c now s.rests l signs) s.cursors
-      (without e.ticket s.entries) (later_targets c l) in
+      (without e.ticket s.entries) (later_targets c e.request l) in
       elim (cases_Bool (ltb 0 sends_left)) [
         | inl y ↦ rw y (record {
           packets = (

@@ -60,7 +60,7 @@ module _ (c : RealmConfig) (ends : Ends) (looked : ℕ → Bool) (tries : 1 ≤ 
 
   -- its targets fit in what it pays for
   abbrev Fits : PlainRequest → Target → Type 0
-  Fits q target = FitsIn c ends (counted_links c ends (targets c q)) target.link
+  Fits q target = FitsIn c q ends (counted_links c ends (targets c q)) target.link
 
   admit-pays :
       (now : ℕ) (s : RealmState) (rests : List Rest) (es : List PlainEntry) (q : PlainRequest) (target : Target)
@@ -71,7 +71,7 @@ module _ (c : RealmConfig) (ends : Ends) (looked : ℕ → Bool) (tries : 1 ≤ 
       let step = forwarded-fits_of c ends looked tries now signs q s.stream_position s.ticket
       (counted_links c ends (targets c q)) target fits in
       let sum = sum-put weight new es in
-      let most = at_most (looked s.ticket) (may_follow c ends q.key new.standing) in
+      let most = at_most (looked s.ticket) (may_follow c ends q new.standing) in
       record {
         all = omega (arith, step, sum, most, fewer);
         other = λ no.
@@ -106,7 +106,7 @@ module _ (c : RealmConfig) (ends : Ends) (looked : ℕ → Bool) (tries : 1 ≤ 
       let chosen = new_target c now s es q (targets c q) in
       let m = counted_links c ends (targets c q) in
       let fits : (t : Target) → chosen ≡ Some t → Fits q t =
-      λ t at. new-holds (FitsIn c ends m) c now s es q (targets c q) t (targets-fit c ends q) at in
+      λ t at. new-holds (FitsIn c q ends m) c now s es q (targets c q) t (targets-fit c q ends) at in
       either (Pays s q) (eqb s.ticket (2 ^ 63)) _ _ (refuses-pays s q refusal.Exhausted)
       (either (Pays s q) (share_taken c es q) _ _ (refuses-pays s q refusal.ShareTaken)
       (at_target-pays now s _ es q chosen fewer fits))
@@ -169,9 +169,9 @@ module _ (c : RealmConfig) (ends : Ends) (looked : ℕ → Bool) (tries : 1 ≤ 
       let back_octets = returned_octets c e.request l forwarded reply in
       let answered = with_standing (done back_octets (now + c.realm.hold) (Some l)) e in
       let replaced = sum-replaced weight answered e s.entries refl at in
-      let might = may_follow c ends e.request.key e.standing in
-      let old : might ≡ may_follow c ends e.request.key (waiting l id octets sends_left deadline signs) =
-      ap (may_follow c ends e.request.key) is in
+      let might = may_follow c ends e.request e.standing in
+      let old : might ≡ may_follow c ends e.request (waiting l id octets sends_left deadline signs) =
+      ap (may_follow c ends e.request) is in
       let sent = ap (guard b) (back_of c ends looked tries e.request.key back_octets) in
       let enough = more b (counted_back ends e.request.key) might (omega (arith, old)) in
       either (Answers s (Some e))

@@ -13,7 +13,8 @@ use Rattle.roam_pending.specs.declared.key.Key.{Key}
 use Rattle.roam_pending.specs.DueOrder.{due_list}
 use Rattle.roam_pending.specs.PlainEntry.{PlainRequest, PlainStanding, PlainEntry, waiting, done}
 use Rattle.roam_pending.specs.EntryList.{find_client, find_link, find_ticket, first_done, without, without_client}
-use Rattle.roam_realm.specs.RealmConfig.{RealmConfig, later_targets, link_secret, seal_required}
+use Rattle.roam_realm.specs.RealmConfig.{RealmConfig, link_secret, seal_required}
+use Rattle.roam_realm.specs.ServerOrder.{later_targets}
 use Rattle.roam_realm.specs.Rests.{after_silence}
 use Rattle.roam_realm.specs.RealmState.{RealmState, Target, chosen_target, with_rests}
 use Rattle.roam_exchange.specs.Turn.{Turn, refuses, sends, packets_of, in_time, hears}
@@ -173,7 +174,7 @@ due_standing_for : (c : RealmConfig) (now : ℕ) (s : RealmState) (e : PlainEntr
 due_standing_for c now s e (done reply deadline from) = silent_for c.index (without_entry s e)
 due_standing_for c now s e (waiting l id forwarded sends_left deadline signs) =
     let target = chosen_target c now (after_silence c now s.rests l signs) s.cursors
-    (without e.ticket s.entries) (later_targets c l) in
+    (without e.ticket s.entries) (later_targets c e.request l) in
     either (MadeFor c.index) (nat_lt 0 sends_left) _ (fail_over c now (given_up_at c now l signs s e) e target)
     (made_for c.index _ _ refl) (fail_over_for c now (given_up_at c now l signs s e) e target)
 

@@ -12,7 +12,8 @@ use Rattle.roam_pending.specs.declared.due.Due.{Due}
 use Rattle.roam_pending.specs.DueOrder.{due_list}
 use Rattle.roam_pending.specs.PlainEntry.{PlainRequest, PlainStanding, PlainEntry, waiting, done}
 use Rattle.roam_pending.specs.EntryList.{find_client, find_link, find_ticket, first_done, without, without_client}
-use Rattle.roam_realm.specs.RealmConfig.{RealmConfig, later_targets, link_secret, seal_required}
+use Rattle.roam_realm.specs.RealmConfig.{RealmConfig, link_secret, seal_required}
+use Rattle.roam_realm.specs.ServerOrder.{later_targets}
 use Rattle.roam_realm.specs.Rests.{after_silence}
 use Rattle.roam_realm.specs.RealmState.{RealmState, Target, chosen_target, with_rests}
 use Rattle.roam_exchange.specs.Turn.{Turn, state_after, in_time}
@@ -116,7 +117,7 @@ due_standing-keeps c now s e (waiting l id forwarded sends_left deadline signs) 
     either (Keeps s) (ltb 0 sends_left) _ _ refl
     (fail_over-keeps c now (given_up_at c now l signs s e) e
     (chosen_target c now (after_silence c now s.rests l signs) s.cursors
-    (without e.ticket s.entries) (later_targets c l)))
+    (without e.ticket s.entries) (later_targets c e.request l)))
 
 due_entry-keeps : (c : RealmConfig) (now : ℕ) (s : RealmState) (found : Option PlainEntry) →
     Keeps s (due_entry c now s found)

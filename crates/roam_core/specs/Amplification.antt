@@ -8,12 +8,14 @@ use Rattle.roam_conf.specs.Lookup.{out_of}
 use Rattle.roam_conf.specs.declared.place.Link.{Link}
 use Rattle.roam_conf.specs.declared.place.Place.{Place}
 use Rattle.roam_conf.specs.declared.place.Place.TheVariants as place
+use Rattle.roam_wire.specs.Reading.{packet_of}
 use Rattle.roam_admission.specs.Admission.{PlainOut}
 use Rattle.roam_pending.specs.declared.key.Key.{Key}
 use Rattle.roam_pending.specs.DueOrder.{due_list}
 use Rattle.roam_pending.specs.PlainEntry.{PlainEntry, PlainRequest, PlainStanding, waiting, done}
 use Rattle.roam_realm.specs.Conversing.{same_end}
-use Rattle.roam_realm.specs.RealmConfig.{RealmConfig, later_targets, link_endpoint}
+use Rattle.roam_realm.specs.RealmConfig.{RealmConfig, link_endpoint, service_of}
+use Rattle.roam_realm.specs.ServerOrder.{later_targets, places_of}
 use Rattle.roam_realm.specs.RealmState.{RealmState}
 use Rattle.roam_exchange.specs.Turn.{packets_of}
 use Rattle.roam_exchange.specs.OnRequest.{is_reverse, targets}
@@ -76,11 +78,11 @@ may_be_caused c ends (e ∷ es) = caused_by c ends e + may_be_caused c ends es
 
 -- what may still be sent for an entry that waits: to its link as often as sends are left, `tries` packets
 -- to each end of the later targets, and one back. For one that is done nothing, unless its request comes again
-abbrev pub may_follow : RealmConfig → Ends → Key → PlainStanding → ℕ
-may_follow c ends key (waiting l id forwarded sends_left deadline signs) =
+abbrev pub may_follow : RealmConfig → Ends → PlainRequest → PlainStanding → ℕ
+may_follow c ends q (waiting l id forwarded sends_left deadline signs) =
     sends_left * counted_links c ends (l ∷ [])
-    + c.realm.tries * counted_links c ends (later_targets c l) + counted_back ends key
-may_follow c ends key (done reply deadline from) = 0
+    + c.realm.tries * counted_links c ends (later_targets c q l) + counted_back ends q.key
+may_follow c ends q (done reply deadline from) = 0
 
 -- the sum of a number for each of some entries
 abbrev pub sum_over : (PlainEntry → ℕ) → List PlainEntry → ℕ
@@ -89,7 +91,7 @@ sum_over f (e ∷ es) = f e + sum_over f es
 
 abbrev pub may_still_follow : RealmConfig → Ends → List PlainEntry → ℕ
 may_still_follow c ends entries =
-    sum_over (λ e. may_follow c ends e.request.key e.standing) entries
+    sum_over (λ e. may_follow c ends e.request e.standing) entries
 
 -- no amplification: begun in any state, what was sent, and what may still follow, is at most what might
 -- follow in that state, and what the requests that came may cause
@@ -133,8 +135,10 @@ OnePacketEach =
     (c : RealmConfig) (s : RealmState) (e : RealmEvent)
     → length (packets_of (on_event c s e)) ≤ sends_at_most s e
 
--- to how many ends targets lead: those of a reverse request to one at most, of any other to the realm's servers
+-- to how many ends targets lead: those of a reverse request to one at most, of any other to the realm's servers of its
+-- service
 abbrev pub TargetsAreFew : Type 0
 TargetsAreFew =
     (c : RealmConfig) (q : PlainRequest)
-    → length (one_each (targets c q)) ≤ (if is_reverse q then 1 else length c.realm.servers)
+    → length (one_each (targets c q))
+    ≤ (if is_reverse q then 1 else length (places_of (service_of (packet_of q.octets).code) 0 c.realm.servers))

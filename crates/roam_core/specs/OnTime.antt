@@ -5,7 +5,8 @@ use Rattle.std.specs.List.{AllByRecursion}
 use Rattle.roam_conf.specs.declared.place.Link.{Link}
 use Rattle.roam_pending.specs.ListLaws.{IsIn}
 use Rattle.roam_pending.specs.PlainEntry.{PlainEntry, PlainRequest, PlainStanding, waiting, done, deadline_of, is_done}
-use Rattle.roam_realm.specs.RealmConfig.{RealmConfig, later_targets}
+use Rattle.roam_realm.specs.RealmConfig.{RealmConfig}
+use Rattle.roam_realm.specs.ServerOrder.{later_targets}
 use Rattle.roam_realm.specs.RealmState.{RealmState}
 use Rattle.roam_exchange.specs.Turn.{state_after}
 use Rattle.roam_exchange.specs.OneRealm.{RealmEvent, request_came, on_event, one_realm_run}
@@ -24,17 +25,17 @@ AreOnTime c gap s (e ∷ es) =
 
 -- how many packets may still leave for an entry that waits: as many as sends are left, and `tries` to each later
 -- server
-abbrev pub packets_left : RealmConfig → Link → ℕ → ℕ
-packets_left c l sends_left = sends_left + c.realm.tries * length (one_each (later_targets c l))
+abbrev pub packets_left : RealmConfig → PlainRequest → Link → ℕ → ℕ
+packets_left c q l sends_left = sends_left + c.realm.tries * length (one_each (later_targets c q l))
 
 -- until when an entry may wait as it stands: each of those packets for `wait`, and `gap` more
-abbrev pub waits_until : RealmConfig → ℕ → PlainStanding → ℕ
-waits_until c gap (waiting l id octets sends_left deadline signs) =
-    deadline + gap + packets_left c l sends_left * (c.realm.wait + gap)
-waits_until c gap (done reply deadline from) = 0
+abbrev pub waits_until : RealmConfig → ℕ → PlainRequest → PlainStanding → ℕ
+waits_until c gap q (waiting l id octets sends_left deadline signs) =
+    deadline + gap + packets_left c q l sends_left * (c.realm.wait + gap)
+waits_until c gap q (done reply deadline from) = 0
 
 abbrev pub LastsUntil : RealmConfig → ℕ → ℕ → ℕ → PlainEntry → Type 0
-LastsUntil c gap ticket until e = e.ticket ≡ ticket → waits_until c gap e.standing ≤ until
+LastsUntil c gap ticket until e = e.ticket ≡ ticket → waits_until c gap e.request e.standing ≤ until
 
 -- ## On time
 -- Some events are on time for a gap where none of them finds an entry that waits and is overdue by more than `gap`

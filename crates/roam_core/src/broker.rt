@@ -81,8 +81,8 @@ impl<'c, A: Allocator> Model for Broker<'c, A> {
 }
 
 impl<'c, A: Allocator + Copy> Broker<'c, A> {
-    /// A fresh broker: no request is pending, and each realm begins at place 0 of its random words and
-    /// ticket 0. `NoMemory` comes where a growth was refused; nothing of the broker is left then.
+    /// Makes a fresh broker: no request is pending, and each realm begins at place 0 of its random words and ticket
+    /// 0. `NoMemory` comes where a growth was refused; nothing of the broker is left then.
     pub fn new(alloc: A, config: &'c Config) -> Result<Broker<'c, A>, NoMemory>
         ensures config { IfOk result (λ b. b.config ≡ shown config.now) }
         ensures states { IfOk result (λ b. b.states ≡ fresh (shown config.now)) }
@@ -132,7 +132,7 @@ impl<'c, A: Allocator + Copy> Broker<'c, A> {
         }
     }
 
-    /// A realm's part of a tick at which only done entries are due: they go, where the realm belongs to the
+    /// Does a realm's part of a tick at which only done entries are due: they go, where the realm belongs to the
     /// shard. Takes no memory.
     fn let_one_go(&mut self, now: u64, shard: u16, realm: usize)
         requires there { realm < length self.old.states }
@@ -150,7 +150,7 @@ impl<'c, A: Allocator + Copy> Broker<'c, A> {
         }
     }
 
-    /// A realm's part of a shard's tick, in the room that was made for it. Without one only done entries are
+    /// Does a realm's part of a shard's tick, in the room that was made for it. Without one only done entries are
     /// due, if the realm takes part: they go. Takes no memory.
     fn tick_one(
         &mut self,
@@ -183,7 +183,7 @@ impl<'c, A: Allocator + Copy> Broker<'c, A> {
         append_reserved(outs, answer.outs);
     }
 
-    /// A shard's tick, for which there is room: its realms in rising index. Takes no memory.
+    /// Does a shard's tick, for which there is room: its realms in rising index. Takes no memory.
     fn tick_in(&mut self, now: u64, shard: u16, room: ShardRoom<A>) -> Answer<A>
         requires moment { now ≤ 2 ^ 62 }
         requires rooms { AreRooms self.old.config now shard 0 self.old.states room.rooms.items }
@@ -209,7 +209,7 @@ impl<'c, A: Allocator + Copy> Broker<'c, A> {
         }
     }
 
-    /// A tick at which only done entries are due: they go, and nothing is sent. Takes no memory.
+    /// Does a tick at which only done entries are due: they go, and nothing is sent. Takes no memory.
     fn let_go(&mut self, now: u64, shard: u16)
         requires moment { now ≤ 2 ^ 62 }
         requires done { only_done_from self.old.config now shard 0 self.old.states ≡ true }

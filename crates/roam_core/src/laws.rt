@@ -17,7 +17,7 @@ ghost use Rattle.roam_core.specs.ProvenanceLaws.{DrawsAreApart, EachEntryHasOrig
 ghost use Rattle.roam_core.specs.ProvenanceLaws.{OneRequestHasTicket, TicketIsGivenOnce, WordsAreDrawnInOrder};
 ghost use Rattle.roam_core.specs.ProvenanceLaws.{WordsAreDrawnOnce};
 
-/// Whatever the events, what the broker sends for a realm, and how the realm then stands, is what the
+/// States that, whatever the events, what the broker sends for a realm, and how the realm then stands, is what the
 /// written broker of that one realm does with the realm's own events.
 pub fn isolated_realms()
     ensures from_start { EachIsIsolatedFromStart }
@@ -31,14 +31,14 @@ pub fn isolated_ledgers()
     ensures { EachLedgerIsIsolated }
 {}
 
-/// Each realm begins at its own start.
+/// States that each realm begins at its own start.
 pub fn realms_open()
     ensures { EachRealmOpens }
 {}
 
-/// Of the events that were lost for want of memory a realm misses its own: an arrival that was given to it, and a
-/// tick at which an entry of its own was due. In packets and state it is as if nothing else was lost. And where each
-/// such entry was answered its next tick makes that good.
+/// States that, of the events that were lost for want of memory, a realm misses only its own: an arrival that was
+/// given to it, and a tick at which an entry of its own was due. In packets and state it is as if nothing else was
+/// lost. And where each such entry was answered its next tick makes that good.
 pub fn own_losses()
     ensures own { EachMissesItsOwn }
     ensures made_good { NextTickMakesGood }
@@ -67,9 +67,9 @@ pub fn one_realm()
     ensures { OneRealmIsAlone }
 {}
 
-/// Each packet of a realm is the forwarded one of a request of the realm's events, the returned one of a
-/// reply that was taken for such a packet, or the NAK of a reverse request; and each entry is of such a
-/// request. The ticket says of which: it is given to one event. And no two draws of words for a forwarded
+/// States that each packet of a realm is the forwarded one of a request of the realm's events, the returned one of a
+/// reply that was taken for such a packet, or the NAK of a Disconnect- or CoA-Request; and that each entry is of such
+/// a request. The ticket says of which: it is given to one event. And no two draws of words for a forwarded
 /// Access-Request's Authenticator begin at one position, below 2^66 draws (RFC 2865, section 3).
 pub fn provenance()
     ensures packets { EachPacketHasOrigin }
@@ -81,10 +81,10 @@ pub fn provenance()
     ensures once { WordsAreDrawnOnce }
 {}
 
-/// In a realm whose reverse requests name sessions of its own, each Disconnect- or CoA-Request that is sent was of one
-/// session of that realm's ledger when it came: of its target, with its one Acct-Session-Id, and at the access server
-/// that it names. No other realm's event changes which (RFC 5176, section 3.5). That a request which is forwarded was
-/// so holds over all changes of the configuration, under that of the time when it came.
+/// States that in a realm with `own_sessions` each Disconnect- or CoA-Request that is sent was of one session of that
+/// realm's session table when it came: of its target, with its one Acct-Session-Id, and at the access server that it
+/// names. No other realm's event changes which (RFC 5176, section 3.5). That a request which is forwarded was so
+/// holds over all changes of the configuration, under that of the time when it came.
 pub fn own_sessions()
     ensures admitted { AdmittedIsOfOwnSession }
     ensures life { AdmittedIsOfOwnSessionIn }
@@ -92,23 +92,23 @@ pub fn own_sessions()
     ensures each { EachSentIsOfOwnSession }
 {}
 
-/// Over a realm's life, while its configuration changes any number of times, whether it goes on in its state or
-/// begins anew: where each entry comes from what happened, so do those that are held later, and each packet that
-/// is sent then has its origin in what happened, under the configuration of its time.
+/// States that this holds over a realm's life, while its configuration changes any number of times, and whether it
+/// goes on in its state or begins anew: where each entry comes from what happened, so do those that are held later,
+/// and each packet that is sent then has its origin in what happened, under the configuration of its time.
 pub fn life_provenance()
     ensures entries { EntriesKeepOrigin }
     ensures packets { EachPacketHasOriginFrom }
 {}
 
-/// Over a realm's life a ticket is given to one event, and so to one request: no change takes it back.
+/// States that over a realm's life a ticket is given to one event, and so to one request: no change takes it back.
 pub fn life_tickets()
     ensures tickets { TicketIsGivenOnceIn }
     ensures requests { OneRequestHasTicketIn }
 {}
 
-/// Over a realm's life its words are drawn in order, and no two draws begin at one position, below 2^66 draws. So
-/// the words of a forwarded Access-Request's Authenticator are drawn for it alone: two that were forwarded with the
-/// words of one position are the same packet for the same request (RFC 2865, section 3).
+/// States that over a realm's life its words are drawn in order, and no two draws begin at one position, below 2^66
+/// draws. So the words of a forwarded Access-Request's Authenticator are drawn only for it: two that were forwarded
+/// with the words of one position are the same packet for the same request (RFC 2865, section 3).
 pub fn life_draws()
     ensures words { WordsAreDrawnInOrderIn }
     ensures apart { DrawsAreApartIn }

@@ -22,7 +22,8 @@ pub(crate) struct ShardRoom<A: Allocator> {
     pub outs: Vec<Out<A>, A>,
 }
 
-/// The room of a realm, where it takes part and an entry of its own that is due waits. Any other wants none.
+/// Makes the room of a realm, where it takes part and an entry of its own that is due waits. Any other realm wants
+/// none.
 fn room_for<A: Allocator + Copy>(
     book: &Book<'_, A>,
     now: u64,
@@ -58,7 +59,7 @@ pub fn with_room<A: Allocator>(most: usize, room: &Option<Room<A>>) -> Result<us
     most.checked_add(most_of(room)).ok_or(NoMemory)
 }
 
-/// All the memory of a shard's tick, taken realm by realm: only for those that want it.
+/// Takes all the memory of a shard's tick, realm by realm: only for those that want it.
 pub(crate) fn room_of_shard<A: Allocator + Copy>(
     alloc: A,
     config: &Config,

@@ -10,7 +10,7 @@ use crate::turn::CountedTurn;
 use roam_conf::Place;
 use roam_wire::Refusal;
 
-/// One more of an event, where there is somebody of whom it is.
+/// Returns one more of an event, where there is a subject of which it is.
 fn one_of(subject: Option<Subject>, event: CountedEvent) -> Option<Increment>
     ensures { result ≡ spec.one_of subject event }
 {
@@ -20,7 +20,7 @@ fn one_of(subject: Option<Subject>, event: CountedEvent) -> Option<Increment>
     }
 }
 
-/// The realm to which a place belongs.
+/// Returns the realm to which a place belongs.
 fn realm_at(place: Place) -> Option<Subject>
     ensures { result ≡ spec.realm_at place }
 {
@@ -30,7 +30,7 @@ fn realm_at(place: Place) -> Option<Subject>
     }
 }
 
-/// The counts that rise where a packet comes that is for a realm.
+/// Returns the counts that rise where a packet comes that is for a realm.
 pub fn arrival_increments(turn: CountedTurn) -> [Option<Increment>; 2]
     ensures { result ≡ spec.arrival_increments turn }
 {
@@ -41,7 +41,7 @@ pub fn arrival_increments(turn: CountedTurn) -> [Option<Increment>; 2]
     ]
 }
 
-/// The counts that rise where the call for a packet isn't recorded, since it is refused so.
+/// Returns the counts that rise where the call for a packet isn't recorded, since it is refused so.
 pub fn failed_increments(turn: CountedTurn, why: Refusal) -> [Option<Increment>; 3]
     ensures { result ≡ spec.failed_increments turn why }
 {
@@ -53,8 +53,8 @@ pub fn failed_increments(turn: CountedTurn, why: Refusal) -> [Option<Increment>;
     ]
 }
 
-/// The counts that rise where a datagram is refused before it came to a realm: of the one to which its place belongs
-/// too, and of who sent it.
+/// Returns the counts that rise where a datagram is refused before it came to a realm: also those of the realm to
+/// which its place belongs, and of its sender.
 pub fn refused_increments(
     place: Place,
     sender: Option<Subject>,
@@ -70,7 +70,7 @@ pub fn refused_increments(
     ]
 }
 
-/// The counts that rise where something is refused of which no more is known.
+/// Returns the counts that rise where something is refused of which no more is known.
 pub fn refused_here_increments(why: Refusal) -> [Option<Increment>; 1]
     ensures { result ≡ spec.refused_here_increments why }
 {

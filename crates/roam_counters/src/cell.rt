@@ -49,7 +49,7 @@ impl Holder {
 }
 
 impl Subject {
-    /// In whose list its events are counted.
+    /// Returns the holder of the list in which its events are counted.
     pub fn holder(self) -> Holder
         ensures { result ≡ spec.holder_of self }
     {

@@ -31,7 +31,7 @@ pub struct DatagramCounts {
 }
 
 impl DatagramCounts {
-    /// One more was received, and this became of it.
+    /// Returns the counts after one more datagram was received, of which this became.
     fn after(self, handling: Handling) -> DatagramCounts
         ensures { result ≡ spec.handled self handling }
     {
@@ -47,7 +47,7 @@ impl DatagramCounts {
         counts
     }
 
-    /// These and others.
+    /// Adds other counts to these.
     fn and(self, other: DatagramCounts) -> DatagramCounts
         ensures { result ≡ spec.both self other }
     {
@@ -71,7 +71,7 @@ pub struct Datagrams {
 }
 
 impl Datagrams {
-    /// None was received.
+    /// Makes the counts of no datagram.
     pub fn none() -> Datagrams
         ensures { result.counts ≡ spec.none_received }
     {
@@ -87,7 +87,7 @@ impl Datagrams {
         }
     }
 
-    /// One more was received, and this became of it.
+    /// Returns the counts after one more datagram was received, of which this became.
     pub fn after(self, handling: Handling) -> Datagrams
         ensures { result.counts ≡ spec.handled self.counts handling }
     {
@@ -96,7 +96,7 @@ impl Datagrams {
         }
     }
 
-    /// These and others.
+    /// Adds others to these.
     pub fn and(self, others: Datagrams) -> Datagrams
         ensures { result.counts ≡ spec.both self.counts others.counts }
     {

@@ -49,7 +49,7 @@ impl Delay {
         }
     }
 
-    /// Its place among the eight.
+    /// Returns its place among the eight.
     pub fn place(self) -> usize
         ensures { result ≡ spec.delay_place self }
     {

@@ -7,7 +7,7 @@ use crate::cell::Subject;
 use crate::event::CountedEvent;
 use crate::increments::Increment;
 
-/// So many more of an event of a realm.
+/// Returns so many more of an event of a realm.
 fn more_of_realm(realm: u16, event: CountedEvent, count: u64) -> Option<Increment>
     ensures { result ≡ spec.more_of_realm realm event count }
 {

@@ -14,7 +14,7 @@ use roam_conf::Link;
 use roam_exchange::{Became, DueHappening, Waited};
 use std::alloc::Allocator;
 
-/// The counts that rise where a request goes to another server.
+/// Returns the counts that rise where a request goes to another server.
 fn of_failed_over<A: Allocator>(realm: u16, waited: &Waited<A>, to: Link) -> Increments
     ensures { result ≡ spec.of_failed_over realm (shown_waited waited.now) to }
 {
@@ -31,7 +31,7 @@ fn of_failed_over<A: Allocator>(realm: u16, waited: &Waited<A>, to: Link) -> Inc
     ]
 }
 
-/// The counts that rise where no server is left for a request.
+/// Returns the counts that rise where no server is left for a request.
 fn of_given_up<A: Allocator>(realm: u16, waited: &Waited<A>, by_nak: bool) -> Increments
     ensures { result ≡ spec.of_given_up realm (shown_waited waited.now) by_nak }
 {
@@ -53,7 +53,7 @@ fn of_given_up<A: Allocator>(realm: u16, waited: &Waited<A>, by_nak: bool) -> In
     ]
 }
 
-/// The counts that rise by what became of a request in a tick.
+/// Returns the counts that rise by what became of a request in a tick.
 pub fn due_increments<A: Allocator>(due: &DueHappening<A>) -> Increments
     ensures { result ≡ spec.due_increments (shown_due due.now) }
 {

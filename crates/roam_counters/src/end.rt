@@ -7,7 +7,7 @@ ghost use Rattle.roam_counters.specs.Ends as spec;
 use crate::cell::Subject;
 use roam_conf::{Config, Endpoint, Link, Place};
 
-/// The subject of a link of a realm.
+/// Returns the subject of a link of a realm.
 pub fn subject_of(realm: u16, link: Link) -> Subject
     ensures { result ≡ spec.subject_of realm link }
 {
@@ -17,14 +17,15 @@ pub fn subject_of(realm: u16, link: Link) -> Subject
     }
 }
 
-/// The subject of a source of a realm's reverse requests, by its number: those behind the first eight are one.
+/// Returns the subject of a source of a realm's Disconnect- and CoA-Requests, by its number: those behind the first
+/// eight are one.
 pub fn source_of(realm: u16, home: u8) -> Subject
     ensures { result ≡ spec.source_of realm home }
 {
     Subject::Server(realm, home.min(8))
 }
 
-/// A peer as a subject, if it is there.
+/// Returns a peer as a subject, if it is there.
 fn subject_of_peer(peer: Option<u16>) -> Option<Subject>
     ensures { result ≡ option_map Subject.Peer peer }
 {

@@ -63,7 +63,7 @@ pub enum CountedEvent {
 }
 
 impl CountedEvent {
-    /// Its place among all events.
+    /// Returns its place among all events.
     pub fn place(self) -> usize
         ensures value { result ≡ spec.event_place self }
         ensures below { result < 103 }

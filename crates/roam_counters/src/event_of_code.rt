@@ -54,7 +54,7 @@ pub(crate) fn answered(code: u8) -> Option<CountedEvent>
     }
 }
 
-/// The NAK that answers a reverse request of this code (RFC 5176, section 3).
+/// Returns the NAK that answers a Disconnect- or CoA-Request of this code (RFC 5176, section 3).
 fn nak_for(code: u8) -> Option<ReplyKind>
     ensures { result ≡ spec.nak_for code }
 {

@@ -28,7 +28,7 @@ pub struct Increment {
 /// The counts that rise by what happened.
 pub type Increments = [Option<Increment>; 7];
 
-/// One more of an event, where it is one.
+/// Returns one more of an event, where it is one.
 pub(crate) fn one(subject: Subject, event: Option<CountedEvent>) -> Option<Increment>
     ensures { result ≡ spec.one subject event }
 {
@@ -52,7 +52,7 @@ pub(crate) fn requester_of(realm: u16, requester: Requester) -> Subject
     }
 }
 
-/// The same of a realm and of who sent a packet to it.
+/// Returns one more of an event, of a realm and of the sender of a packet to it.
 fn of_both(turn: CountedTurn, event: Option<CountedEvent>) -> Increments
     ensures { result ≡ spec.of_both turn event }
 {
@@ -61,7 +61,7 @@ fn of_both(turn: CountedTurn, event: Option<CountedEvent>) -> Increments
     [realm, sender, None, None, None, None, None]
 }
 
-/// Of both, two events.
+/// Returns one more of each of two events, of a realm and of the sender of a packet to it.
 fn two_of_both(
     turn: CountedTurn,
     first: Option<CountedEvent>,
@@ -82,7 +82,7 @@ fn two_of_both(
     ]
 }
 
-/// A packet was refused: that counts for all too.
+/// Returns the counts that rise where a packet was refused: that counts for all too.
 fn of_refused(turn: CountedTurn, why: Refusal) -> Increments
     ensures { result ≡ spec.of_refused turn why }
 {
@@ -93,7 +93,8 @@ fn of_refused(turn: CountedTurn, why: Refusal) -> Increments
     [realm, sender, all, None, None, None, None]
 }
 
-/// Something became of a request that waited: of its realm, of where it waited and of who sent it.
+/// Returns the counts that rise where something became of a request that waited: those of its realm, of where it
+/// waited and of its sender.
 pub(crate) fn of_waited<A: Allocator>(
     realm: u16,
     waited: &Waited<A>,
@@ -109,7 +110,8 @@ pub(crate) fn of_waited<A: Allocator>(
     ]
 }
 
-/// The same of a request that was replaced, if one was.
+/// Returns the counts that rise where a request was replaced, if one was: those of its realm, of where it waited and
+/// of its sender.
 fn of_replaced<A: Allocator>(realm: u16, replaced: &Option<Waited<A>>) -> [Option<Increment>; 3]
     ensures { result ≡ spec.of_replaced realm (spec.shown_if replaced.now) }
 {
@@ -119,7 +121,7 @@ fn of_replaced<A: Allocator>(realm: u16, replaced: &Option<Waited<A>>) -> [Optio
     }
 }
 
-/// A request was forwarded to a link, in the place of another one, if that waited.
+/// Returns the counts that rise where a request was forwarded to a link, in the place of another one, if that waited.
 fn of_forwarded<A: Allocator>(
     turn: CountedTurn,
     link: Link,
@@ -176,7 +178,7 @@ fn lost_event(turn: CountedTurn) -> Option<CountedEvent>
     }
 }
 
-/// A reply of this code was returned for a request that waited.
+/// Returns the counts that rise where a reply of this code was returned for a request that waited.
 fn of_returned<A: Allocator>(
     turn: CountedTurn,
     code: u8,
@@ -200,8 +202,8 @@ fn of_returned<A: Allocator>(
     ]
 }
 
-/// The counts that rise by what happened by a packet that was given to a realm at a moment, in which a server may take
-/// so long to answer.
+/// Returns the counts that rise by what happened by a packet that was given to a realm at a moment, where a server
+/// may take so long to answer.
 pub fn job_increments<A: Allocator>(
     turn: CountedTurn,
     happening: &Happening<A>,
@@ -223,7 +225,7 @@ pub fn job_increments<A: Allocator>(
     }
 }
 
-/// The counts that rise where the broker answers somebody by itself, with a packet of this code.
+/// Returns the counts that rise where the broker answers a sender by itself, with a packet of this code.
 pub fn local_increments(sender: Option<Subject>, code: u8) -> Increments
     ensures { result ≡ spec.local_increments sender code }
 {

@@ -60,7 +60,7 @@ impl NakCause {
         }
     }
 
-    /// Its place among the six.
+    /// Returns its place among the six.
     pub fn place(self) -> usize
         ensures { result ≡ spec.cause_place self }
     {
@@ -76,7 +76,7 @@ impl NakCause {
 }
 
 impl RequestKind {
-    /// The request of a code; none where the code is no such request's.
+    /// Returns the request of a code, or `None` where the code is no such request's.
     pub fn of(code: u8) -> Option<RequestKind>
         ensures { result ≡ spec.request_of code }
     {
@@ -89,7 +89,7 @@ impl RequestKind {
         }
     }
 
-    /// Its place among the four.
+    /// Returns its place among the four.
     pub fn place(self) -> usize
         ensures { result ≡ spec.request_place self }
     {
@@ -103,7 +103,7 @@ impl RequestKind {
 }
 
 impl ReplyKind {
-    /// The reply of a code; none where the code is no such reply's.
+    /// Returns the reply of a code, or `None` where the code is no such reply's.
     pub fn of(code: u8) -> Option<ReplyKind>
         ensures { result ≡ spec.reply_of code }
     {
@@ -120,7 +120,7 @@ impl ReplyKind {
         }
     }
 
-    /// Its place among the eight.
+    /// Returns its place among the eight.
     pub fn place(self) -> usize
         ensures { result ≡ spec.reply_place self }
     {

@@ -4,7 +4,7 @@ ghost use Rattle.roam_counters.specs.Apart.{CellsAreApart};
 ghost use Rattle.roam_counters.specs.OwnCounts.{CountsAreSums};
 ghost use Rattle.roam_counters.specs.Sums.{SumsAreOfEvents};
 
-/// Two counts stand at one place of one list only where they are one.
+/// States that two counts stand at one place of one list only where they are one.
 pub fn cells_are_apart()
     ensures { CellsAreApart }
 {}
@@ -14,7 +14,7 @@ pub fn sums_are_of_events()
     ensures { SumsAreOfEvents }
 {}
 
-/// The counts that a thread raised by increments are the sums of those of their event and their subject.
+/// States that the counts that a thread raised by increments are the sums of those of their event and their subject.
 pub fn counts_are_sums()
     ensures { CountsAreSums }
 {}

@@ -8,7 +8,7 @@ use crate::increments::{Increments, of_waited};
 use roam_exchange::LeftConversation;
 use std::alloc::Allocator;
 
-/// The counts that rise by a conversation that was left.
+/// Returns the counts that rise by a conversation that was left.
 pub fn left_increments<A: Allocator>(left: &LeftConversation<A>) -> Increments
     ensures { result ≡ spec.left_increments left.now }
 {

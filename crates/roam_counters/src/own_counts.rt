@@ -24,14 +24,14 @@ impl<A: Allocator> Model for CountList<A> {
 }
 
 impl<A: Allocator> CountList<A> {
-    /// The list that begins with these counts.
+    /// Makes the list that begins with these counts.
     pub fn new(counts: Vec<u64, A>) -> CountList<A>
         ensures { result ≡ counts.items }
     {
         CountList { counts }
     }
 
-    /// The count at a place rises, if there is one: it begins again at 0 after 2^64 - 1. Answers what it is then.
+    /// Raises the count at a place, if there is one: it begins again at 0 after 2^64 - 1. Answers what it is then.
     fn raise(&mut self, place: usize, more: u64) -> Option<u64>
         ensures list { self.new ≡ spec.raised_at self.old place more }
         ensures count { result ≡ slice_get self.new place }
@@ -47,7 +47,7 @@ impl<A: Allocator> CountList<A> {
     }
 }
 
-/// The count at a place of the list of this number rises.
+/// Raises the count at a place of the list of this number. Answers what it is then.
 fn raise_in<A: Allocator>(
     lists: &mut Vec<CountList<A>, A>,
     number: u16,
@@ -115,7 +115,7 @@ impl<A: Allocator> OwnCounts<A> {
         }
     }
 
-    /// The count at a place of a list rises, if there is one. Answers what it is then.
+    /// Raises the count at a place of a list, if there is one. Answers what it is then.
     fn raise(&mut self, holder: Holder, place: usize, more: u64) -> Option<u64>
         ensures { self.new ≡ spec.raised self.old holder place more }
     {
@@ -126,7 +126,7 @@ impl<A: Allocator> OwnCounts<A> {
         }
     }
 
-    /// The count of an increment's event and subject rises by it, if it is one. Answers what it is then, if there is
+    /// Raises the count of an increment's event and subject by it, if it is one. Answers what it is then, if there is
     /// such a count.
     pub fn add(&mut self, increment: &Option<Increment>) -> Option<Counted>
         ensures { self.new ≡ spec.raised_by self.old increment.now }
@@ -147,7 +147,7 @@ impl<A: Allocator> OwnCounts<A> {
 }
 
 impl<A: Allocator + Copy> OwnCounts<A> {
-    /// No counts.
+    /// Makes the lists without counts.
     pub fn none(alloc: A) -> OwnCounts<A>
         ensures { result ≡ record { server = []; realms = []; peers = [] } }
     {

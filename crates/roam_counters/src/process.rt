@@ -73,7 +73,7 @@ impl Process {
         }
     }
 
-    /// Its place among these counts.
+    /// Returns its place among these counts.
     pub fn place(self) -> usize
         ensures value { result ≡ spec.process_place self }
         ensures below { result < 19 }

@@ -8,7 +8,7 @@ use roam_admission::Job;
 use roam_counters::CountedTurn;
 use std::alloc::Global;
 
-/// The code of a packet (RFC 2865, section 3).
+/// Returns the code of a packet (RFC 2865, section 3).
 fn code_of(octets: &[u8]) -> u8
     ensures { result ≡ spec.code_of octets.now }
 {
@@ -18,7 +18,7 @@ fn code_of(octets: &[u8]) -> u8
     }
 }
 
-/// A job, as what comes of it is counted.
+/// Returns a job in the form in which it is counted.
 pub fn turn_of(job: &Job<Global>) -> CountedTurn
     ensures { result ≡ spec.turn_of (shown_job job.now) }
 {

@@ -29,13 +29,13 @@ impl Drop for Counters {
 }
 
 impl Counters {
-    /// Nothing was counted yet, by the threads of a server of this configuration.
+    /// Makes counters where nothing was counted yet, by the threads of a server of this configuration.
     pub fn new(alloc: Global, config: &Config) -> Result<Counters, AllocError> {
         Counters::made(alloc, None, config)
     }
 
-    /// For the threads of a server of a configuration that follows another: what goes on from there has no memory here
-    /// until it is taken.
+    /// Makes counters for the threads of a server of a configuration that follows another: what goes on from there
+    /// has no memory here until it is taken.
     pub fn after(alloc: Global, before: &Config, config: &Config) -> Result<Counters, AllocError> {
         Counters::made(alloc, Some(before), config)
     }
@@ -110,7 +110,8 @@ impl Counters {
         }
     }
 
-    /// The same of a realm, and of each of its home servers that is still there, wherever it stands.
+    /// Adds what was counted of a realm whose list was made anew, and of each of its home servers that is still
+    /// there, wherever it stands.
     fn add_realm(&self, others: &Counters, number: u16, before: &Realm, after: &Realm) {
         let realm = Subject::Realm(number);
         self.add_subject(realm, others, realm);
@@ -189,14 +190,14 @@ pub struct ThreadCounts<'t> {
 }
 
 impl ThreadCounts<'_> {
-    /// The stored steps of a shard have so many octets.
+    /// Notes that the stored steps of a shard have so many octets.
     pub fn history_is(&self, shard: u16, octets: u64) {
         if let Some(history) = self.history.get(usize::from(shard)) {
             history.store(octets, Ordering::SeqCst);
         }
     }
 
-    /// So many more of this of the whole server.
+    /// Counts so many more of this of the whole server.
     pub fn process(&self, process: Process, more: u64) {
         if more > 0 {
             if let Some(count) = self.sheet.count(Holder::Server, process.cell()) {

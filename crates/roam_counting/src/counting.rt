@@ -49,14 +49,14 @@ fn wait_of(config: &Config, realm: u16) -> u32
 }
 
 impl Counting<'_> {
-    /// A datagram came to a place.
+    /// Counts a datagram that came to a place.
     pub fn received(&self, place: Place) {
         if let Some(counts) = &self.counts {
             counts.process(Process::received(place), 1);
         }
     }
 
-    /// This became of a datagram.
+    /// Counts that this became of a datagram.
     pub fn handled(&self, handling: Handling) {
         if let Some(counts) = &self.counts {
             counts.process(Process::handled(handling), 1);
@@ -70,7 +70,7 @@ impl Counting<'_> {
         self.events.add(increments);
     }
 
-    /// A packet came that is for a realm.
+    /// Counts a packet that came for a realm.
     pub fn came(&mut self, turn: CountedTurn)
         ensures { IsCounted self.old self.new (arrivals.arrival_increments turn) }
     {
@@ -92,14 +92,14 @@ impl Counting<'_> {
         self.add(&job_increments(turn, happening, now, wait));
     }
 
-    /// A call for a packet isn't recorded.
+    /// Counts a call for a packet that isn't recorded.
     pub fn failed(&mut self, turn: CountedTurn, refusal: Refusal)
         ensures { IsCounted self.old self.new (arrivals.failed_increments turn refusal) }
     {
         self.add(&failed_increments(turn, refusal));
     }
 
-    /// A datagram was refused before it came to a realm.
+    /// Counts a datagram that was refused before it came to a realm.
     pub fn refused(&mut self, config: &Config, refusal: Refusal, place: Place, from: Endpoint)
         ensures { IsCounted self.old self.new
             (arrivals.refused_increments place (end_at (shown config.now) place from) refusal) }
@@ -108,14 +108,14 @@ impl Counting<'_> {
         self.add(&refused_increments(place, sender, refusal));
     }
 
-    /// Something was refused of which no more is known.
+    /// Counts a refusal of which no more is known.
     pub fn refused_here(&mut self, refusal: Refusal)
         ensures { IsCounted self.old self.new (arrivals.refused_here_increments refusal) }
     {
         self.add(&refused_here_increments(refusal));
     }
 
-    /// The broker answered somebody by itself, with a packet of this code.
+    /// Counts that the broker answered a sender by itself, with a packet of this code.
     pub fn answered(&mut self, config: &Config, place: Place, to: Endpoint, code: u8)
         ensures { IsCounted self.old self.new
             (increments.local_increments (end_at (shown config.now) place to) code) }
@@ -158,21 +158,21 @@ impl Counting<'_> {
         }
     }
 
-    /// One more of this of the whole server.
+    /// Counts one more of this of the whole server.
     pub fn process(&self, process: Process) {
         if let Some(counts) = &self.counts {
             counts.process(process, 1);
         }
     }
 
-    /// So many lines of exchanges were dropped.
+    /// Counts that so many lines of exchanges were dropped.
     pub fn lines_dropped(&self, count: u64) {
         if let Some(counts) = &self.counts {
             counts.process(Process::LineDropped, count);
         }
     }
 
-    /// A step of a shard was stored, whose stored steps have so many octets now.
+    /// Counts that a step of a shard was stored, whose stored steps have so many octets now.
     pub fn stored(&self, shard: u16, octets: u64) {
         if let Some(counts) = &self.counts {
             counts.process(Process::Step, 1);
@@ -180,7 +180,7 @@ impl Counting<'_> {
         }
     }
 
-    /// So many stored steps of a shard were let go of together.
+    /// Counts that so many stored steps of a shard were dropped together.
     pub fn let_go(&self, shard: u16, steps: usize) {
         if let Some(counts) = &self.counts {
             counts.history_is(shard, 0);

@@ -29,7 +29,7 @@ fn leave(sheet: Option<&Sheet>, counted: Option<Counted>) {
     }
 }
 
-/// An increment of some.
+/// Copies an increment, if there is one.
 fn copied(increment: &Option<Increment>) -> Option<Increment>
     ensures { result ≡ increment.now }
 {
@@ -37,7 +37,7 @@ fn copied(increment: &Option<Increment>) -> Option<Increment>
 }
 
 impl<'t> EventCounts<'t> {
-    /// Nothing is counted.
+    /// Makes counts where nothing is counted.
     pub fn none(alloc: Global) -> EventCounts<'t> {
         EventCounts {
             sheet: None,
@@ -45,7 +45,7 @@ impl<'t> EventCounts<'t> {
         }
     }
 
-    /// The counts of a thread that go on from what stands in its sheet.
+    /// Makes the counts of a thread that go on from what stands in its sheet.
     pub(crate) fn new(alloc: Global, sheet: &'t Sheet) -> Result<EventCounts<'t>, AllocError> {
         Ok(EventCounts {
             sheet: Some(sheet),

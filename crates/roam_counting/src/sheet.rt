@@ -28,7 +28,7 @@ impl Drop for Sheet {
     }
 }
 
-/// So many counts that stand at 0.
+/// Makes so many counts that stand at 0.
 pub fn zeros(alloc: Global, count: usize) -> Result<Vec<AtomicU64>, AllocError> {
     let mut zeros = Vec::with_capacity(alloc, count)?;
     for _ in 0..count {
@@ -56,7 +56,7 @@ fn realm_cells(before: Option<&Config>, after: &Realm, number: usize) -> usize {
     }
 }
 
-/// The same for the peer of an index.
+/// Returns how many counts are made for the peer of an index: none where its list goes on, or where it is gone.
 fn peer_cells(before: Option<&Config>, is_gone: bool, number: usize) -> usize {
     let old = match before {
         Some(before) => before.peers.get(number),
@@ -100,7 +100,7 @@ fn take_list(list: &mut Vec<AtomicU64>, other: &mut Vec<AtomicU64>, is_gone: boo
     }
 }
 
-/// The counts of a list, as they stand.
+/// Reads the counts of a list, as they stand.
 fn own_list(alloc: Global, list: &[AtomicU64]) -> Result<CountList<Global>, AllocError> {
     let mut own = Vec::with_capacity(alloc, list.len())?;
     for count in list {
@@ -109,7 +109,7 @@ fn own_list(alloc: Global, list: &[AtomicU64]) -> Result<CountList<Global>, Allo
     Ok(CountList::new(own))
 }
 
-/// The counts of lists, as they stand.
+/// Reads the counts of lists, as they stand.
 fn own_lists(
     alloc: Global,
     lists: &[Vec<AtomicU64>],
@@ -121,7 +121,7 @@ fn own_lists(
     Ok(own)
 }
 
-/// The place of a list, if there is one.
+/// Returns the list of a number, if there is one.
 fn list_at(lists: &[Vec<AtomicU64>], number: u16) -> Option<&[AtomicU64]> {
     match lists.get(usize::from(number)) {
         Some(list) => Some(list.as_slice()),
@@ -130,7 +130,8 @@ fn list_at(lists: &[Vec<AtomicU64>], number: u16) -> Option<&[AtomicU64]> {
 }
 
 impl Sheet {
-    /// The sheet of a configuration: with all lists, or where another one was served before with those that are new.
+    /// Makes the sheet of a configuration: with all lists, or where another one was served before with those that are
+    /// new.
     pub fn new(
         alloc: Global,
         before: Option<&Config>,
@@ -170,7 +171,7 @@ impl Sheet {
         self.take_peers(others, after);
     }
 
-    /// The list of a holder, if there is one.
+    /// Returns the list of a holder, if there is one.
     fn list(&self, holder: Holder) -> Option<&[AtomicU64]> {
         match holder {
             Holder::Server => Some(self.server.as_slice()),
@@ -179,7 +180,7 @@ impl Sheet {
         }
     }
 
-    /// A count, if there is one.
+    /// Returns a count, if there is one.
     pub fn count(&self, holder: Holder, place: usize) -> Option<&AtomicU64> {
         self.list(holder)?.get(place)
     }

@@ -27,7 +27,7 @@ pub fn zeroing()
     ensures place { ValueStandsInPlace }
 {}
 
-/// The tests by which definitions choose are true just where their facts hold.
+/// States that the tests by which definitions choose are true just where their facts hold.
 pub fn deciding()
     ensures signed_reply { SignedReplyIsDecided }
     ensures signed_request { SignedRequestIsDecided }
@@ -43,7 +43,7 @@ pub fn signing()
     ensures request_packet { SignedRequestIsPacket }
 {}
 
-/// Each digest has sixteen octets, and a packet with other sixteen octets for its Authenticator is a
+/// States that each digest has sixteen octets, and that a packet with other sixteen octets for its Authenticator is a
 /// packet.
 pub fn digests()
     ensures response { ResponseAuthenticatorIsSixteen }

@@ -7,7 +7,7 @@ ghost use Rattle.roam_crypto.specs.Hiding.{Key, Opens, block, xor_octets, HasWho
 use crate::Hasher;
 use std::simd::prelude::*;
 
-/// MD5 of the secret and of what stands before a block.
+/// Returns MD5 of the secret and of what stands before a block.
 pub(crate) fn digest_of(secret: &[u8], before: &[u8]) -> [u8; 16]
     ensures { result ≡ md5 (secret.now ++ before.now) }
 {
@@ -17,7 +17,7 @@ pub(crate) fn digest_of(secret: &[u8], before: &[u8]) -> [u8; 16]
     hasher.finalize()
 }
 
-/// Block `k`, counted from 0.
+/// Returns block `k`, counted from 0.
 fn block_at(value: &[u8], k: usize) -> [u8; 16]
     requires { 16 * k + 16 ≤ length value.now }
     ensures { result ≡ block k value.now }
@@ -25,7 +25,7 @@ fn block_at(value: &[u8], k: usize) -> [u8; 16]
     u8x16::from_slice(&value[16 * k..]).to_array()
 }
 
-/// Block `k`, with one digest taken off and another put on.
+/// Takes one digest off block `k`, and puts another on.
 fn rehide_block(value: &mut [u8], k: usize, off: &[u8; 16], on: &[u8; 16])
     requires { 16 * k + 16 ≤ length value.old }
     ensures { value.new ≡ take (16 * k) value.old

@@ -6,22 +6,22 @@ ghost use Rattle.roam_crypto.specs.SaltedLaws.{OneListOfSubAttributes, OneAttrib
 ghost use Rattle.roam_crypto.specs.SaltedLaws.{AttributeAnewKeepsSize, HiddenAnewIsOctets, AttributeAnewIsOctets};
 ghost use Rattle.roam_crypto.specs.SaltedLaws.{SaltedIsDecided};
 
-/// A plain text of whole blocks has just one hidden text.
+/// States that a plain text of whole blocks has just one hidden text.
 pub fn one_hidden_text()
     ensures { OneHiddenText }
 {}
 
-/// A hidden text of whole blocks has just one plain text.
+/// States that a hidden text of whole blocks has just one plain text.
 pub fn one_plain_text()
     ensures { OnePlainText }
 {}
 
-/// A text of whole blocks can be hidden anew in just one way.
+/// States that a text of whole blocks can be hidden anew in just one way.
 pub fn one_text_anew()
     ensures { OneTextAnew }
 {}
 
-/// Hiding anew with the same key changes nothing.
+/// States that hiding anew with the same key changes nothing.
 pub fn same_key_changes_nothing()
     ensures { SameKeyChangesNothing }
 {}
@@ -31,12 +31,12 @@ pub fn first_key_brings_back()
     ensures { FirstKeyBringsBack }
 {}
 
-/// Octets are those of one list of sub-attributes at most.
+/// States that octets are those of at most one list of sub-attributes.
 pub fn one_list_of_sub_attributes()
     ensures { OneListOfSubAttributes }
 {}
 
-/// An attribute's salted strings can be hidden anew in just one way.
+/// States that an attribute's salted strings can be hidden anew in just one way.
 pub fn one_attribute_anew()
     ensures { OneAttributeAnew }
 {}
@@ -53,12 +53,12 @@ pub fn octets_stay()
     ensures attribute { AttributeAnewIsOctets }
 {}
 
-/// The test of a password's size is true just where it may have that size.
+/// States that the test of a password's size is true just where it may have that size.
 pub fn password_size_decided()
     ensures { PasswordSizeIsDecided }
 {}
 
-/// The test of salted strings is true just where a packet has one.
+/// States that the test of salted strings is true just where a packet has one.
 pub fn salted_decided()
     ensures { SaltedIsDecided }
 {}

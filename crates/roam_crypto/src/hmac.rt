@@ -12,7 +12,7 @@ const INNER_PAD: u8 = 0x36;
 /// The octet of opad (RFC 2104, section 2).
 const OUTER_PAD: u8 = 0x5c;
 
-/// The key, and zeros behind it to the 64 octets of a block.
+/// Returns the key, and zeros behind it to the 64 octets of a block.
 pub fn padded_key(key: &[u8]) -> [u8; 64]
     requires { length key.now ≤ 64 }
     ensures { result ≡ padded_key key.now }
@@ -22,7 +22,7 @@ pub fn padded_key(key: &[u8]) -> [u8; 64]
     block
 }
 
-/// The padded key, each octet XORed with the pad's.
+/// Returns the padded key, each octet XORed with the pad's.
 fn key_with_pad(key: &[u8], pad: u8) -> [u8; 64]
     requires { length key.now ≤ 64 }
     ensures { result ≡ key_with_pad pad key.now }
@@ -34,7 +34,7 @@ fn key_with_pad(key: &[u8], pad: u8) -> [u8; 64]
     block
 }
 
-/// A hasher that has taken the key, and takes the message.
+/// Makes the hasher that has taken the key, and takes the message.
 pub fn inner_hasher(key: &[u8]) -> Hasher
     requires { length key.now ≤ 64 }
     ensures { Holds result (key_with_pad 0x36 key.now) }
@@ -44,7 +44,7 @@ pub fn inner_hasher(key: &[u8]) -> Hasher
     hasher
 }
 
-/// A hasher that has taken the key, and takes the inner digest.
+/// Makes the hasher that has taken the key, and takes the inner digest.
 pub fn outer_hasher(key: &[u8]) -> Hasher
     requires { length key.now ≤ 64 }
     ensures { Holds result (key_with_pad 0x5c key.now) }

@@ -29,7 +29,7 @@ fn seal_place_in(octets: &[u8]) -> Option<usize>
     seal_place(&View::of_packet(octets))
 }
 
-/// The Message-Authenticator of the packet of these octets, whose own begins at this octet.
+/// Computes the Message-Authenticator of the packet of these octets, whose own begins at octet `at`.
 fn digest_in(octets: &[u8], at: usize, secret: &Secret, authenticator: [u8; 16]) -> [u8; 16]
     requires packet { IsPacketText octets.now }
     requires one { HasOneMessageAuthenticator (packet_of octets.now) }

@@ -46,7 +46,7 @@ pub(crate) fn update_with_packet(
     update_zeroed(hasher, octets_from(octets, at));
 }
 
-/// The Message-Authenticator of a packet whose own begins at this octet, over an Authenticator.
+/// Computes the Message-Authenticator of a packet over an Authenticator, where the packet's own begins at octet `at`.
 pub(crate) fn digest_at(
     view: &View<'_>,
     at: usize,
@@ -62,9 +62,9 @@ pub(crate) fn digest_at(
     secret.outer_digest(hasher.finalize())
 }
 
-/// The Message-Authenticator of a packet over an Authenticator: HMAC-MD5, keyed by the secret, of
-/// the packet with that Authenticator in its field and its Message-Authenticator's 16 octets zero
-/// (RFC 3579, section 3.2). None unless just one Message-Authenticator stands there, of 16 octets.
+/// Computes the Message-Authenticator of a packet over an Authenticator: HMAC-MD5, keyed by the secret, of the packet
+/// with that Authenticator in its field and its Message-Authenticator's 16 octets zero (RFC 3579, section 3.2).
+/// Returns `None` unless just one Message-Authenticator stands there, of 16 octets.
 pub fn message_auth(view: &View<'_>, secret: &Secret, authenticator: [u8; 16]) -> Option<[u8; 16]>
     ensures some { IfSome result (λ digest.
         digest ≡ message_authenticator secret.now authenticator view.now) }

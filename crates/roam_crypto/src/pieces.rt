@@ -11,7 +11,7 @@ use roam_wire::attribute_type::MESSAGE_AUTHENTICATOR;
 /// yet (RFC 2866, section 3; RFC 3579, section 3.2).
 pub const ZERO_OCTETS: [u8; 16] = [0; 16];
 
-/// Code, Identifier and Length: what stands before the Authenticator.
+/// Returns Code, Identifier and Length: what stands before the Authenticator.
 pub fn before_authenticator(octets: &[u8]) -> &[u8]
     requires { 20 ≤ length octets.now }
     ensures { result.now ≡ take 4 octets.now }
@@ -19,7 +19,7 @@ pub fn before_authenticator(octets: &[u8]) -> &[u8]
     octets.split_at(4).0
 }
 
-/// The attributes: what stands behind the Authenticator.
+/// Returns the attributes: what stands behind the Authenticator.
 pub fn behind_authenticator(octets: &[u8]) -> &[u8]
     requires { 20 ≤ length octets.now }
     ensures { result.now ≡ drop 20 octets.now }

@@ -10,9 +10,8 @@ use crate::pieces::ZERO_OCTETS;
 use crate::response::response_auth;
 use roam_wire::View;
 
-/// The Request Authenticator of an accounting or reverse request: MD5 of its Code, Identifier and
-/// Length, sixteen zero octets, its attributes and the secret (RFC 2866, section 3; RFC 5176,
-/// section 2.3).
+/// Computes the Request Authenticator of an Accounting-, Disconnect- or CoA-Request: MD5 of its Code, Identifier and
+/// Length, sixteen zero octets, its attributes and the secret (RFC 2866, section 3; RFC 5176, section 2.3).
 pub fn request_auth(view: &View<'_>, secret: &[u8]) -> [u8; 16]
     requires secret { IsSecret secret.now }
     ensures { result ≡ request_authenticator secret.now view.now }

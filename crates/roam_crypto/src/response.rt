@@ -9,7 +9,7 @@ use crate::comparing::is_same_digest;
 use crate::taking_in::update_with_field;
 use roam_wire::View;
 
-/// The Response Authenticator of a reply: MD5 of its Code, Identifier and Length, the request's
+/// Computes the Response Authenticator of a reply: MD5 of its Code, Identifier and Length, the request's
 /// Authenticator, its attributes and the secret (RFC 2865, section 3).
 pub fn response_auth(view: &View<'_>, request_authenticator: [u8; 16], secret: &[u8]) -> [u8; 16]
     requires secret { IsSecret secret.now }

@@ -32,7 +32,7 @@ impl Model for Secret {
 }
 
 impl Secret {
-    /// The secret of these octets. Takes no memory.
+    /// Makes the secret of these octets. Takes no memory.
     pub fn new(octets: &[u8]) -> Secret
         requires { length octets.now ≤ 64 }
         ensures { result ≡ octets.now }
@@ -48,21 +48,21 @@ impl Secret {
         }
     }
 
-    /// The secret's octets.
+    /// Returns the secret's octets.
     pub fn octets(&self) -> &[u8]
         ensures { result.now ≡ self.now }
     {
         self.padded.split_at(self.len).0
     }
 
-    /// A hasher that has taken the key, and takes the message.
+    /// Returns a hasher that has taken the key, and takes the message.
     pub(crate) fn inner_hasher(&self) -> Hasher
         ensures { Holds result (key_with_pad 0x36 self.now) }
     {
         self.inner
     }
 
-    /// The digest of the key and the inner digest.
+    /// Returns the digest of the key and the inner digest.
     pub(crate) fn outer_digest(&self, inner: [u8; 16]) -> [u8; 16]
         ensures { result ≡ md5 (key_with_pad 0x5c self.now ++ inner) }
     {
@@ -72,7 +72,7 @@ impl Secret {
     }
 }
 
-/// HMAC-MD5 of a message (RFC 2104, section 2), for a key of at most 64 octets.
+/// Computes HMAC-MD5 of a message (RFC 2104, section 2), for a key of at most 64 octets.
 #[tactic(auto, unfolding(crate::specs::Hmac::hmac_md5))]
 pub fn hmac_md5(key: &[u8], message: &[u8]) -> [u8; 16]
     requires { length key.now ≤ 64 }

@@ -11,7 +11,7 @@ use crate::hiding_key::HidingKey;
 use crate::sub_attributes::{any_salted, rehide_subs};
 use roam_wire::Attrs;
 
-/// The vendor in the first four octets.
+/// Returns the vendor in the first four octets.
 fn vendor_of(value: &[u8]) -> u32
     requires { 4 ≤ length value.now }
     ensures { result ≡ vendor_number (take 4 value.now) }

@@ -44,7 +44,7 @@ pub struct Reply {
     pub handed: Option<Handed>,
 }
 
-/// An answer that has no stored steps.
+/// Makes an answer that has no stored steps.
 pub fn plain_reply(course: Course, body: Vec<u8>) -> Reply {
     Reply {
         course,
@@ -53,7 +53,7 @@ pub fn plain_reply(course: Course, body: Vec<u8>) -> Reply {
     }
 }
 
-/// The answer that it was done.
+/// Makes the answer that it was done.
 pub fn done(body: Vec<u8>) -> Reply {
     plain_reply(Course::Done, body)
 }
@@ -97,7 +97,7 @@ fn take_reply(slip: &mut Slip) -> Option<Result<Reply, NoReply>> {
 }
 
 impl Desk {
-    /// Nothing lies there.
+    /// Makes a desk where nothing lies.
     pub fn new() -> Desk {
         Desk {
             slip: Mutex::new(Slip::Nothing),
@@ -197,7 +197,7 @@ pub struct Office {
     pub is_over: AtomicBool,
 }
 
-/// The seconds since 1970, where the system's clock tells them.
+/// Returns the seconds since 1970, where the system's clock tells them.
 fn seconds_since_1970<R: Clock>(rt: &R) -> Option<u64> {
     match rt.since_1970() {
         Ok(time) => Some(time.as_secs()),
@@ -206,7 +206,7 @@ fn seconds_since_1970<R: Clock>(rt: &R) -> Option<u64> {
 }
 
 impl Office {
-    /// Nobody asks yet. There are so many shards.
+    /// Makes an office where nobody asks yet, for so many shards.
     pub fn new<R: Clock>(
         rt: &R,
         alloc: Global,
@@ -228,7 +228,7 @@ impl Office {
         })
     }
 
-    /// A reload went so, at this moment, in milliseconds since the start.
+    /// Counts that a reload went so, at this moment, in milliseconds since the start.
     pub fn count_reload(&self, course: Course, now: u64) {
         if course == Course::Done {
             self.served.add(now);
@@ -249,7 +249,7 @@ impl Office {
         }
     }
 
-    /// The server ends: who waits is told.
+    /// Notes that the server ends, and wakes the desks so that those who wait are told.
     pub fn close(&self) {
         self.is_over.store(true, Ordering::SeqCst);
         self.metrics.wake();

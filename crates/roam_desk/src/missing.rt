@@ -19,7 +19,7 @@ pub struct Missing {
 }
 
 impl Missing {
-    /// Nothing is missing of so many shards.
+    /// Makes the count where nothing is missing of so many shards.
     pub fn new(alloc: Global, shards: u16) -> Result<Missing, AllocError> {
         let mut of_shards = Vec::with_capacity(alloc, usize::from(shards))?;
         for _ in 0..shards {
@@ -28,7 +28,7 @@ impl Missing {
         Ok(Missing { of_shards })
     }
 
-    /// These weren't taken whole.
+    /// Adds steps that weren't taken whole.
     pub fn add(&self, handed: Handed) {
         if let Some(count) = self.of_shards.get(usize::from(handed.shard)) {
             count.fetch_add(handed.steps, Ordering::SeqCst);

@@ -15,7 +15,7 @@ pub enum Build {
 }
 
 impl Build {
-    /// Its version.
+    /// Returns the version of the build.
     pub fn version(self) -> &'static str {
         match self {
             Build::Roam => "1.0.0",
@@ -23,7 +23,7 @@ impl Build {
         }
     }
 
-    /// The line of the toolchain that proved it.
+    /// Returns the line of the toolchain that proved it.
     pub fn toolchain(self) -> &'static str {
         match self {
             Build::Roam => "rattle-kit-13f logic dac8208d650f15bf",
@@ -48,7 +48,7 @@ fn last_of(noted: u64) -> Option<u64>
 }
 
 impl Tally {
-    /// There was none.
+    /// Makes the tally of no reload.
     pub fn new() -> Tally {
         Tally {
             times: AtomicU64::new(0),
@@ -56,7 +56,7 @@ impl Tally {
         }
     }
 
-    /// There was one more, at this moment.
+    /// Counts one more, at this moment.
     pub fn add(&self, now: u64) {
         self.times.fetch_add(1, Ordering::SeqCst);
         self.last.store(now, Ordering::SeqCst);

@@ -23,7 +23,7 @@ fn push_hex(script: &mut Vec<u8>, octets: &[u8]) -> Result<(), AllocError> {
     Ok(())
 }
 
-/// The words of an arrival's line before its octets: when, at which place, and from where.
+/// Makes the words of an arrival's line before its octets: when, at which place, and from where.
 fn words_of(alloc: Global, now: u64, at: Place, from: Endpoint) -> Result<String, AllocError> {
     match at {
         Place::Auth(nth) => format!(in alloc; " {now} auth{} {from} ", NthText(nth)),

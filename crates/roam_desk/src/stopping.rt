@@ -28,7 +28,7 @@ pub fn grace(config: &Config) -> u64
     longest.min(LONGEST)
 }
 
-/// The earlier of two ends, where there is one.
+/// Returns the earlier of two ends, where there is one.
 fn earlier(end: Option<u64>, other: u64) -> Option<u64>
     ensures { MatchOption end (result ≡ (if other == 2 ^ 64 - 1 then None else Some other))
         (λ moment. result ≡ Some (min moment other)) }
@@ -41,7 +41,7 @@ fn earlier(end: Option<u64>, other: u64) -> Option<u64>
 }
 
 impl Stopping {
-    /// It isn't asked to stop.
+    /// Begins with no request to stop.
     pub fn new() -> Stopping {
         Stopping {
             is_asked: AtomicBool::new(false),

@@ -3,6 +3,7 @@
 use crate::advices::{ADVICES, Advice};
 use crate::document::{Document, Located};
 use crate::lines::Lines;
+use crate::place::TableKind;
 use crate::survey::Survey;
 use crate::{deliveries, known_secret, names, servers, sessions, sharing, slips};
 
@@ -67,7 +68,7 @@ pub(crate) enum Unwise {
     Absent,
 }
 
-/// The numbers of a realm that the advice is about, also where they aren't written.
+/// Returns the number of a realm that the advice is about, also where it isn't written.
 fn number(at: Located<'_>, key: &str) -> u64 {
     let default = match key {
         "tries" => 3,
@@ -83,6 +84,12 @@ fn number(at: Located<'_>, key: &str) -> u64 {
 fn has_short_rest(at: Located<'_>) -> bool {
     let rest = number(at, "rest");
     0 < rest && rest < number(at, "tries").saturating_mul(number(at, "wait"))
+}
+
+/// Returns whether an Access packet of a client, or of a server that has `auth`, may lack a Message-Authenticator.
+fn is_unsealed(at: Located<'_>) -> bool {
+    let is_of_access = at.place.kind == TableKind::Peer || at.keys.has("auth");
+    is_of_access && !at.keys.is_set("require_seal")
 }
 
 /// Returns whether the text under the key is an endpoint at all addresses.
@@ -106,7 +113,7 @@ impl Unwise {
         key: &str,
     ) -> bool {
         match self {
-            Unwise::Unsealed => !at.keys.is_set("require_seal"),
+            Unwise::Unsealed => is_unsealed(at),
             Unwise::LongHold => number(at, "hold") > 30000,
             Unwise::FewEntries => number(at, "max_pending") < number(at, "hold") / 1000,
             Unwise::ShortRest => has_short_rest(at),

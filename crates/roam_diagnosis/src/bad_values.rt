@@ -67,9 +67,20 @@ fn say_meant(form: ValueForm, text: &str, is_hidden: bool, lines: &mut Lines) {
     }
 }
 
+/// Returns the form that is told of what is shown: where one prefix or an array of them may stand, an array is told of
+/// only where one stands there.
+fn told_form(form: ValueForm, shown: &Value) -> ValueForm {
+    match (form, shown) {
+        (ValueForm::Prefixes(_), Value::Array(_)) => form,
+        (ValueForm::Prefixes(_), _) => ValueForm::Network(NetworkForm::Prefix),
+        _ => form,
+    }
+}
+
 /// Says what stands under a key and isn't of its form, unless it may be a secret.
 fn say_shown(key: &str, form: ValueForm, value: &Value, lines: &mut Lines) {
     let shown = misfit(form, value);
+    let form = told_form(form, shown);
     let is_hidden = is_hidden(key, shown);
     if !is_hidden {
         say_value(shown, lines);

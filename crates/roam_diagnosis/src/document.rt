@@ -103,7 +103,7 @@ impl<'a> Document<'a> {
         behind_top.get(..self.peers).unwrap_or(behind_top)
     }
 
-    /// The top table, which has a place in each document.
+    /// Returns the top table, which has a place in each document.
     pub(crate) fn top(&self) -> Option<Keys<'a>> {
         match self.tables.first() {
             Some(at) => Some(at.keys),

@@ -22,12 +22,13 @@ fn words_before(form: ValueForm) -> &'static str {
         ValueForm::StationWord => "is neither \"clear\" nor \"hmac\"",
         ValueForm::Seed => "is not a text of 64 hexadecimal digits",
         ValueForm::Network(form) => form.misfit(),
-        ValueForm::Endpoints(_) => ", nor an array of ",
+        ValueForm::Endpoints(_) | ValueForm::Prefixes(_) => ", nor an array of ",
         ValueForm::Text(_) | ValueForm::Secret => "is not a text of ",
         ValueForm::Digit => "is not a text of one digit",
         ValueForm::Path(_) => "is not a path of ",
         ValueForm::PeerName | ValueForm::RealmName => "is not ",
         ValueForm::Accounting => "is none of \"forward\", \"answer\" and \"drop\"",
+        ValueForm::Balance => "is neither \"order\" nor \"user\"",
         ValueForm::Tables(..) => "is no array of ",
         _ => "is not in an array of ",
     }
@@ -36,7 +37,7 @@ fn words_before(form: ValueForm) -> &'static str {
 /// Returns the same, behind these.
 fn words_behind(form: ValueForm) -> &'static str {
     match form {
-        ValueForm::Endpoints(_) => " such",
+        ValueForm::Endpoints(_) | ValueForm::Prefixes(_) => " such",
         ValueForm::LocalEndpoints(..) => " endpoints of 127.0.0.0/8, as \"127.0.0.1:1812\"",
         ValueForm::Text(_) | ValueForm::Path(_) | ValueForm::Secret => " octets",
         ValueForm::PeerName => " of ASCII letters, digits, . - and _",
@@ -54,8 +55,10 @@ fn words_behind(form: ValueForm) -> &'static str {
 
 /// Says what a value isn't that doesn't fit.
 pub(crate) fn say_misfit(form: ValueForm, lines: &mut Lines) {
-    if let ValueForm::Endpoints(_) = form {
-        lines.say(NetworkForm::Endpoint.misfit());
+    match form {
+        ValueForm::Endpoints(_) => lines.say(NetworkForm::Endpoint.misfit()),
+        ValueForm::Prefixes(_) => lines.say(NetworkForm::Prefix.misfit()),
+        _ => {}
     }
     lines.say(words_before(form));
     if let Some((least, most)) = bounds_of(form) {

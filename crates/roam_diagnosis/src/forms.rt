@@ -21,6 +21,8 @@ pub(crate) enum ValueForm {
     Network(NetworkForm),
     /// An endpoint, or an array of 1 to so many.
     Endpoints(u32),
+    /// A prefix, or an array of 1 to so many.
+    Prefixes(u32),
     /// An array of so many to so many endpoints of 127.0.0.0/8.
     LocalEndpoints(u32, u32),
     /// A text of 1 to so many octets.
@@ -49,6 +51,8 @@ pub(crate) enum ValueForm {
     ReplyRemovals,
     /// One of three texts: what becomes of accounting.
     Accounting,
+    /// One of two texts: with which server the targets of a request begin.
+    Balance,
     /// So many to so many tables.
     Tables(u32, u32),
 }
@@ -59,9 +63,10 @@ pub(crate) fn bounds_of(form: ValueForm) -> Option<(u32, u32)> {
         ValueForm::Number(least, most)
         | ValueForm::LocalEndpoints(least, most)
         | ValueForm::Tables(least, most) => Some((least, most)),
-        ValueForm::Endpoints(most) | ValueForm::Text(most) | ValueForm::Path(most) => {
-            Some((1, most))
-        }
+        ValueForm::Endpoints(most)
+        | ValueForm::Prefixes(most)
+        | ValueForm::Text(most)
+        | ValueForm::Path(most) => Some((1, most)),
         ValueForm::Secret | ValueForm::PeerName => Some((1, 64)),
         ValueForm::RealmName => Some((1, 253)),
         ValueForm::Names => Some((0, 256)),
@@ -143,10 +148,11 @@ const KEPT_OF_REQUESTS: [u8; 8] = [1, 2, 3, 24, 33, 60, 79, 80];
 /// The same of replies.
 const KEPT_OF_REPLIES: [u8; 4] = [24, 33, 79, 80];
 
-/// The words of a form that has some.
+/// Returns the words of a form that has some.
 fn words_of(form: ValueForm) -> &'static [&'static str] {
     match form {
         ValueForm::Accounting => &["forward", "answer", "drop"],
+        ValueForm::Balance => &["order", "user"],
         ValueForm::ExchangeLines => &["all", "final", "none"],
         ValueForm::StationWord => &["clear", "hmac"],
         _ => &[],
@@ -159,6 +165,7 @@ fn text_fits(form: ValueForm, text: &str) -> bool {
         ValueForm::Seed => is_seed(text),
         ValueForm::Network(form) => form.fits(text),
         ValueForm::Endpoints(_) => NetworkForm::Endpoint.fits(text),
+        ValueForm::Prefixes(_) => NetworkForm::Prefix.fits(text),
         ValueForm::LocalEndpoints(..) => NetworkForm::LocalEndpoint.fits(text),
         ValueForm::Text(most) => has_length(text, most),
         ValueForm::Digit => is_digit(text),
@@ -183,7 +190,7 @@ fn is_of_tables(form: ValueForm) -> bool {
     }
 }
 
-/// The first of the items that isn't a text of the form, or a table where that is one of tables.
+/// Finds the first of the items that isn't a text of the form, or a table where that is one of tables.
 fn first_misfit(form: ValueForm, items: &[Value]) -> Option<&Value> {
     for item in items {
         let fits = match item {
@@ -215,7 +222,7 @@ pub(crate) fn is_list(form: ValueForm) -> bool {
 /// Returns whether an array of the form has texts, each of which may be wrong.
 fn may_be_list(form: ValueForm) -> bool {
     match form {
-        ValueForm::Endpoints(_) => true,
+        ValueForm::Endpoints(_) | ValueForm::Prefixes(_) => true,
         _ => is_list(form),
     }
 }

@@ -30,7 +30,7 @@ impl<'a> Keys<'a> {
         }
     }
 
-    /// The secret, where a text stands there.
+    /// Returns the secret, where a text stands there.
     fn secret(self) -> Option<&'a str> {
         match self.table.get("secret") {
             Some(Value::String(secret)) => Some(secret.as_str()),
@@ -98,7 +98,7 @@ impl<'a> Keys<'a> {
         }
     }
 
-    /// The text under a key.
+    /// Returns the text under a key.
     pub(crate) fn text(self, key: &str) -> Option<&'a str> {
         match self.value(key) {
             Some(Value::String(text)) => Some(text.as_str()),
@@ -106,7 +106,7 @@ impl<'a> Keys<'a> {
         }
     }
 
-    /// The integer under a key, or what holds where it is absent.
+    /// Returns the integer under a key, or the default where it is absent.
     pub(crate) fn number_or(self, key: &str, default: u32) -> u64 {
         match self.value(key) {
             Some(Value::Integer(number)) if 0 <= *number => *number as u64,
@@ -122,7 +122,7 @@ impl<'a> Keys<'a> {
         }
     }
 
-    /// The names of the keys.
+    /// Returns the names of the keys.
     pub(crate) fn names(self) -> btree_map::Keys<'a, String, Value> {
         self.table.keys()
     }

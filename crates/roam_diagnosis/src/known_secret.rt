@@ -2,6 +2,7 @@
 
 use crate::document::Located;
 use roam_conf::{Address, Endpoint, Prefix};
+use toml::Value;
 
 /// Returns whether an address is of this machine: of 127.0.0.0/8, or ::1.
 fn is_local(address: Address) -> bool {
@@ -22,11 +23,19 @@ fn is_elsewhere(text: &str) -> bool {
     }
 }
 
+/// Returns whether a value is such a text.
+fn says_elsewhere(value: &Value) -> bool {
+    match value {
+        Value::String(text) => is_elsewhere(text.as_str()),
+        _ => false,
+    }
+}
+
 /// Returns whether a table has the secret that everybody knows beside an address that another machine may have.
 pub(crate) fn is_known_elsewhere(at: Located<'_>) -> bool {
     for key in ["ip", "auth", "acct"] {
-        if let Some(text) = at.keys.text(key) {
-            if is_elsewhere(text) {
+        for value in at.keys.values(key) {
+            if says_elsewhere(value) {
                 return at.keys.has_known_secret();
             }
         }

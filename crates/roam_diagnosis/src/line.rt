@@ -31,7 +31,7 @@ fn is_printable(octet: u8) -> bool
 }
 
 impl Line {
-    /// A line on which nothing is said yet.
+    /// Makes a line on which nothing is said yet.
     pub(crate) fn new(alloc: Global) -> Line {
         Line {
             text: String::new(alloc),

@@ -34,7 +34,7 @@ impl Model for Lines {
 }
 
 impl Lines {
-    /// No lines.
+    /// Makes an empty list of lines.
     pub fn new(alloc: Global) -> Lines
         ensures { result ≡ [] }
     {
@@ -46,7 +46,7 @@ impl Lines {
         }
     }
 
-    /// The lines, in the order in which they are printed.
+    /// Returns the lines, in the order in which they are printed.
     pub fn as_slice(&self) -> &[Line]
         ensures lines { result.now ≡ self.now }
         ensures few { IsDiagnosis self.now }
@@ -112,7 +112,7 @@ impl Lines {
         self.has_failed = true;
     }
 
-    /// The lines that came about, or none where memory was wanting.
+    /// Returns the lines that came about, or none where memory was wanting.
     pub(crate) fn unless_failed(self) -> Lines {
         if self.has_failed {
             Lines::new(self.alloc)

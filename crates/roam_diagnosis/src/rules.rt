@@ -35,7 +35,7 @@ const TOP: [Rule; 22] = [
 
 const PEER: [Rule; 15] = [
     Rule("name", true, ValueForm::PeerName),
-    Rule("ip", true, ValueForm::Network(NetworkForm::Prefix)),
+    Rule("ip", true, ValueForm::Prefixes(8)),
     Rule("secret", true, ValueForm::Secret),
     Rule("coa", false, ValueForm::Network(NetworkForm::Endpoint)),
     Rule("nas_ip", false, ValueForm::Network(NetworkForm::Ipv4)),
@@ -51,7 +51,7 @@ const PEER: [Rule; 15] = [
     Rule("reply_without", false, ValueForm::ReplyRemovals),
 ];
 
-const REALM: [Rule; 23] = [
+const REALM: [Rule; 24] = [
     Rule("name", true, ValueForm::RealmName),
     Rule("also", false, ValueForm::Names),
     Rule("peers", false, ValueForm::PeerNames),
@@ -63,6 +63,7 @@ const REALM: [Rule; 23] = [
     Rule("peer_share", false, ValueForm::Number(1, 4096)),
     Rule("own_names", false, ValueForm::Flag),
     Rule("conversations", false, ValueForm::Flag),
+    Rule("balance", false, ValueForm::Balance),
     Rule("own_sessions", false, ValueForm::Flag),
     Rule("out", true, ValueForm::Endpoints(16)),
     Rule("reverse", false, ValueForm::Endpoints(8)),
@@ -78,8 +79,8 @@ const REALM: [Rule; 23] = [
 ];
 
 const SERVER: [Rule; 4] = [
-    Rule("auth", true, ValueForm::Network(NetworkForm::Endpoint)),
-    Rule("acct", true, ValueForm::Network(NetworkForm::Endpoint)),
+    Rule("auth", false, ValueForm::Network(NetworkForm::Endpoint)),
+    Rule("acct", false, ValueForm::Network(NetworkForm::Endpoint)),
     Rule("secret", true, ValueForm::Secret),
     Rule("require_seal", false, ValueForm::Flag),
 ];
@@ -121,7 +122,7 @@ const KINDS: [TableKind; 5] = [
     TableKind::Client,
 ];
 
-/// The keys of the tables of a kind.
+/// Returns the keys of the tables of a kind.
 pub(crate) fn rules_of(kind: TableKind) -> &'static [Rule] {
     match kind {
         TableKind::Top => &TOP,
@@ -153,7 +154,7 @@ fn kinds_beside(here: TableKind) -> &'static [TableKind] {
     }
 }
 
-/// The kind of tables, other than this, that have the key; the first where several have it.
+/// Finds the kind of tables, other than this, that have the key; the first where several have it.
 pub(crate) fn owner_of(here: TableKind, key: &str) -> Option<TableKind> {
     for kind in kinds_beside(here) {
         if *kind != here && has_rule(*kind, key) {

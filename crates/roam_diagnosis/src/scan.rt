@@ -39,7 +39,7 @@ impl Scan {
         }
     }
 
-    /// After an octet outside of texts and comments.
+    /// Returns the scan after an octet outside of texts and comments.
     fn plain(self, octet: u8) -> Scan {
         let mode = match octet {
             b'"' | b'\'' => Mode::One(octet),
@@ -54,7 +54,7 @@ impl Scan {
         Scan { mode, depth }
     }
 
-    /// After an octet in a text of one line.
+    /// Returns the scan after an octet in a text of one line.
     fn text(self, quote: u8, octet: u8) -> Scan {
         if octet == quote {
             return self.with(Mode::Plain);
@@ -65,7 +65,7 @@ impl Scan {
         }
     }
 
-    /// After an octet in a text of several lines.
+    /// Returns the scan after an octet in a text of several lines.
     fn long(self, quote: u8, seen: u8, octet: u8) -> Scan {
         if octet == quote {
             return match seen {
@@ -80,7 +80,7 @@ impl Scan {
         }
     }
 
-    /// After one more octet.
+    /// Returns the scan after one more octet.
     fn step(self, octet: u8) -> Scan {
         match self.mode {
             Mode::Plain => self.plain(octet),
@@ -99,7 +99,7 @@ impl Scan {
         }
     }
 
-    /// After a line.
+    /// Returns the scan after a line.
     pub(crate) fn after(self, line: &str) -> Scan {
         let mut scan = self;
         for octet in line.bytes() {

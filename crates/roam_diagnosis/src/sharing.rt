@@ -28,17 +28,30 @@ fn has_server_in(realm: Keys<'_>, prefix: Prefix) -> bool {
     false
 }
 
-/// Returns the prefix of a peer.
-fn prefix_of(peer: Located<'_>) -> Option<Prefix> {
-    Prefix::from_text(peer.keys.text("ip")?)
+/// Returns whether one of the realm's servers is at an address of the prefix that a value states.
+fn has_server_at(realm: Keys<'_>, value: &Value) -> bool {
+    match value {
+        Value::String(text) => match Prefix::from_text(text.as_str()) {
+            Some(prefix) => has_server_in(realm, prefix),
+            None => false,
+        },
+        _ => false,
+    }
+}
+
+/// Returns whether one of the realm's servers is at an address of the peer.
+fn is_at_server(realm: Located<'_>, peer: Located<'_>) -> bool {
+    for value in peer.keys.values("ip") {
+        if has_server_at(realm.keys, value) {
+            return true;
+        }
+    }
+    false
 }
 
 /// Returns whether the realm takes requests of a peer that it doesn't leave out by `peers`.
 fn may_ask(realm: Located<'_>, peer: Located<'_>) -> bool {
-    match prefix_of(peer) {
-        Some(prefix) if realm.keys.is_set("loop_prevention") => !has_server_in(realm.keys, prefix),
-        _ => true,
-    }
+    !realm.keys.is_set("loop_prevention") || !is_at_server(realm, peer)
 }
 
 /// The peers that were found to ask a realm, up to two of them.

@@ -19,12 +19,12 @@ struct Cursor {
     here: TablePlace,
 }
 
-/// A key without blanks and quotation marks round it.
+/// Returns a key without blanks and quotation marks round it.
 fn bare(key: &str) -> &str {
     key.trim().trim_matches(|c: char| c == '"' || c == '\'')
 }
 
-/// The first key of a dotted one, and what comes after the dot.
+/// Returns the first key of a dotted one, and what comes after the dot.
 fn first_key(dotted: &str) -> (&str, Option<&str>) {
     match dotted.split_once('.') {
         Some((first, rest)) => (bare(first), Some(rest)),
@@ -44,7 +44,7 @@ fn header_of(line: &str) -> Option<&str> {
     }
 }
 
-/// The first key of a line `key = value`.
+/// Returns the first key of a line `key = value`.
 pub(crate) fn key_of(line: &str) -> Option<&str> {
     match line.split_once('=') {
         Some((key, _)) => Some(first_key(key).0),
@@ -129,8 +129,8 @@ impl Cursor {
     }
 }
 
-/// The number of the line, from 1, on which the key of the table stands, or its header for the empty key; 0 where
-/// there is none.
+/// Finds the number of the line, from 1, on which the key of the table stands, or its header for the empty key.
+/// Returns 0 where there is none.
 fn line_of(text: &str, place: TablePlace, key: &str) -> u32 {
     let mut cursor = Cursor::START;
     let mut scan = Scan::START;

@@ -8,7 +8,7 @@ use crate::rules::form_of;
 use crate::statements::key_of;
 use toml::de::Error;
 
-/// The line and the column, both from 1, of what comes after so many octets. A column counts characters.
+/// Returns the line and the column, both from 1, of what comes after so many octets. A column counts characters.
 fn position(text: &str, octets: usize) -> (u32, u32) {
     let mut line = 1u32;
     let mut column = 1u32;
@@ -23,7 +23,7 @@ fn position(text: &str, octets: usize) -> (u32, u32) {
     (line, column)
 }
 
-/// The line of this number, from 1, without the blanks before it.
+/// Returns the line of this number, from 1, without the blanks before it.
 fn line_of(text: &str, number: u32) -> &str {
     let mut count = 0u32;
     for line in text.lines() {

@@ -15,7 +15,8 @@ use Rattle.roam_exchange.specs.Happenings.{at_last}
 use Rattle.roam_exchange.specs.OnRequest.{is_reverse}
 use Rattle.roam_exchange.specs.Dues.{became_by}
 use Rattle.roam_exchange.specs.declared.happening.Became.TheVariants as became
-use Rattle.roam_realm.specs.RealmConfig.{RealmConfig, later_targets}
+use Rattle.roam_realm.specs.RealmConfig.{RealmConfig}
+use Rattle.roam_realm.specs.ServerOrder.{later_targets}
 use Rattle.roam_realm.specs.Sound.{chosen_link}
 use Rattle.roam_exchange.specs.DueActions.{IsHeld}
 use Rattle.roam_exchange.proofs.DueActionLemmas.{IsFreed, a_target, next_target, no_target, target-is}
@@ -24,7 +25,7 @@ pub became-gone :
     {A : Type 0} (c : RealmConfig) (now : ℕ) (es : List PlainEntry) (e : PlainEntry)
     (n m : RealmNumbers A) (l : Link) (signs : ℕ) (f : DueAction A)
     → IsHeld c es e n → IsFreed c now l signs (without e.ticket es) n m
-    → None ≡ chosen_link c now m.rests.items m.lanes.items None (later_targets c l)
+    → None ≡ chosen_link c now m.rests.items m.lanes.items None (later_targets c e.request l)
     → became_by f ≡ became.GivenUp (is_reverse e.request)
     → became_by f ≡ at_last e.request (next_target c now es e n l signs)
 became-gone c now es e n m l signs f held freed none is =
@@ -41,7 +42,7 @@ pub became-forwarded :
     {A : Type 0} (c : RealmConfig) (now : ℕ) (es : List PlainEntry) (e : PlainEntry)
     (n m : RealmNumbers A) (l to : Link) (signs : ℕ) (o : Out A) (w : Waiting A) (id : ℕ) (f : List ℕ) (s d k : ℕ)
     → IsHeld c es e n → IsFreed c now l signs (without e.ticket es) n m
-    → Some to ≡ chosen_link c now m.rests.items m.lanes.items None (later_targets c l)
+    → Some to ≡ chosen_link c now m.rests.items m.lanes.items None (later_targets c e.request l)
     → shown_standing (standing.Waiting w) ≡ waiting to id f s d k
     → became_by (action.Forwarded o w) ≡ at_last e.request (next_target c now es e n l signs)
 became-forwarded c now es e n m l to signs o w id f s d k held freed some stands =

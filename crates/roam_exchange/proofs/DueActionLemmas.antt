@@ -23,7 +23,8 @@ use Rattle.roam_sessions.specs.ShownSessions.{Ledger}
 use Rattle.roam_realm.specs.declared.realm_numbers.RealmNumbers.{RealmNumbers}
 use Rattle.roam_admission.specs.declared.datagram.Out.{Out}
 use Rattle.roam_realm.specs.declared.service.Service.TheVariants as service
-use Rattle.roam_realm.specs.RealmConfig.{RealmConfig, IsLink, link_place, later_targets}
+use Rattle.roam_realm.specs.RealmConfig.{RealmConfig, IsLink, link_place}
+use Rattle.roam_realm.specs.ServerOrder.{behind, later_targets, server_order}
 use Rattle.roam_realm.specs.RealmState.{Target, with_entries, next_toward, chosen_target}
 use Rattle.roam_realm.specs.Rests.{after_choice, after_silence, signs_of}
 use Rattle.roam_realm.specs.declared.rest.Rest.{Rest}
@@ -35,7 +36,7 @@ use Rattle.roam_exchange.specs.DueActions.{GivesUp, HoldsNoLink, IsHeld, IsDueAc
 use Rattle.roam_exchange.proofs.SendingLemmas.{position-below}
 use Rattle.roam_realm.proofs.SoundLemmas.{kept-put, kept-without, kept-ticket}
 use Rattle.roam_realm.proofs.LaneLemmas.{tells-done, tells-replaced, tells-again, chosen-open, target-tells, target-next}
-use Rattle.roam_realm.proofs.WaysToLemmas.{links-are}
+use Rattle.roam_realm.proofs.OrderLemmas.{links-are}
 
 -- A realm whose entries change
 
@@ -175,17 +176,19 @@ was-freed c now l id signs es e n m k held waits back counted = record {
   };
 }
 
-pub later-links : (c : RealmConfig) (l : Link) → AllByRecursion (IsLink c) (later_targets c l)
-later-links c (link.Auth server out) = links-are c service.Authentication (server + 1)
-later-links c (link.Acct server out) = links-are c service.Accounting (server + 1)
-later-links c (link.Coa peer out) = tt
+pub later-links : (c : RealmConfig) (q : PlainRequest) (l : Link) → AllByRecursion (IsLink c) (later_targets c q l)
+later-links c q (link.Auth server out) =
+    links-are c service.Authentication (behind server (server_order c service.Authentication q))
+later-links c q (link.Acct server out) =
+    links-are c service.Accounting (behind server (server_order c service.Accounting q))
+later-links c q (link.Coa peer out) = tt
 
 -- the target that is chosen then
 abbrev pub next_target :
     {A : Type 0} → RealmConfig → ℕ → List PlainEntry → PlainEntry → RealmNumbers A → Link → ℕ → Option Target
 next_target c now es e n l signs =
     chosen_target c now (after_silence c now n.rests.items l signs) (cursors_of n.lanes.items)
-    (without e.ticket es) (later_targets c l)
+    (without e.ticket es) (later_targets c e.request l)
 
 -- it is found by the lanes and the rests
 pub target-is :
@@ -193,12 +196,12 @@ pub target-is :
     (l : Link) (signs : ℕ)
     → IsHeld c es e n → IsFreed c now l signs (without e.ticket es) n m
     → option_map (λ t. t.link) (next_target c now es e n l signs)
-    ≡ chosen_link c now m.rests.items m.lanes.items None (later_targets c l)
+    ≡ chosen_link c now m.rests.items m.lanes.items None (later_targets c e.request l)
 target-is c now es e n m l signs held freed =
-    let told = target-tells c now m.rests.items (without e.ticket es) m.lanes.items (later_targets c l)
-    (list-without e.ticket es held.list) freed.tells (later-links c l) in
+    let told = target-tells c now m.rests.items (without e.ticket es) m.lanes.items (later_targets c e.request l)
+    (list-without e.ticket es held.list) freed.tells (later-links c e.request l) in
     rw (freed.cursors) at (ap (λ (rests : List Rest). option_map (λ t. t.link) (chosen_target c now rests
-    (cursors_of m.lanes.items) (without e.ticket es) (later_targets c l))) (sym freed.rests) ∙ told)
+    (cursors_of m.lanes.items) (without e.ticket es) (later_targets c e.request l))) (sym freed.rests) ∙ told)
 
 pub no_target : (o : Option Target) → option_map (λ t. t.link) o ≡ None → o ≡ None
 no_target None h = refl
@@ -260,7 +263,7 @@ pub gone-freed :
     {A : Type 0} (c : RealmConfig) (now : ℕ) (es : List PlainEntry) (e : PlainEntry)
     (n m : RealmNumbers A) (l : Link) (signs : ℕ) (f : DueAction A)
     → IsHeld c es e n → IsFreed c now l signs (without e.ticket es) n m
-    → None ≡ chosen_link c now m.rests.items m.lanes.items None (later_targets c l)
+    → None ≡ chosen_link c now m.rests.items m.lanes.items None (later_targets c e.request l)
     → GivesUp c now e f → KeepsNoLink f
     → IsDueAction c now es e m f (fail_over c now (given_up_at c now l signs (state_of es n) e) e
     (next_target c now es e n l signs))
@@ -316,7 +319,7 @@ pub forwarded-freed :
     {A : Type 0} (c : RealmConfig) (now : ℕ) (es : List PlainEntry) (e : PlainEntry)
     (n m p k : RealmNumbers A) (l to : Link) (signs : ℕ) (o : Out A) (w : Waiting A)
     → IsHeld c es e n → IsFreed c now l signs (without e.ticket es) n m
-    → Some to ≡ chosen_link c now m.rests.items m.lanes.items None (later_targets c l)
+    → Some to ≡ chosen_link c now m.rests.items m.lanes.items None (later_targets c e.request l)
     → RestsBecome (after_choice c now m.rests.items to) m p
     → IsSent c now (without e.ticket es) e.request e.ticket to p k o w
     → IsDueAction c now es e k (action.Forwarded o w)
@@ -326,7 +329,7 @@ forwarded-freed c now es e n m p k l to signs o w held freed some off sent =
     let found = a_target (next_target c now es e n l signs) to
     (target-is c now es e n m l signs held freed ∙ sym some) in
     let next = target-next c now (after_silence c now n.rests.items l signs) (cursors_of n.lanes.items) others
-    (later_targets c l) found.0 found.1 in
+    (later_targets c e.request l) found.0 found.1 in
     let same_cursors : cursors_of p.lanes.items ≡ cursors_of n.lanes.items = ap cursors_of off.lanes ∙ freed.cursors in
     let there : next_toward c (cursors_of n.lanes.items) others to ≡ Some w.id =
     subst (λ (cs : List ℕ). next_toward c cs others to ≡ Some w.id) same_cursors sent.next in

@@ -20,7 +20,8 @@ use Rattle.roam_exchange.specs.OneRealm.{RealmEvent, request_came, reply_came, t
 use Rattle.roam_exchange.specs.OnReply.{on_reply}
 use Rattle.roam_exchange.specs.OnRequest.{is_reverse, on_request, reverse_cause, targets}
 use Rattle.roam_exchange.specs.OnTick.{due_one, on_tick}
-use Rattle.roam_realm.specs.RealmConfig.{RealmConfig, later_targets}
+use Rattle.roam_realm.specs.RealmConfig.{RealmConfig}
+use Rattle.roam_realm.specs.ServerOrder.{later_targets}
 use Rattle.roam_realm.specs.RealmState.{RealmState, Target, chosen_target}
 use Rattle.roam_realm.specs.Rests.{after_silence}
 use Rattle.roam_exchange.specs.Turn.{Turn, refuses, hears, sends}
@@ -169,7 +170,7 @@ due_became c now s e (waiting l id packet sends_left deadline signs) =
     then Some became.SentAgain
     else Some (at_last e.request
     (chosen_target c now (after_silence c now s.rests l signs) s.cursors (without e.ticket s.entries)
-    (later_targets c l)))
+    (later_targets c e.request l)))
 
 -- whether the octets of those are kept that are given up: but where no line is told
 abbrev pub keeps_given_up : ExchangeLines → Bool

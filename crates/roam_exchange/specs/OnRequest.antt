@@ -21,8 +21,9 @@ use Rattle.roam_random.specs.RandomWords.{next_position, request_authenticator_a
 use Rattle.roam_pending.specs.declared.key.Key.{Key}
 use Rattle.roam_pending.specs.PlainEntry.{PlainRequest, PlainStanding, PlainEntry, waiting, done}
 use Rattle.roam_pending.specs.EntryList.{find_client, first_done, without, without_client, put}
-use Rattle.roam_realm.specs.RealmConfig.{RealmConfig, link_secret, requester_secret, link_endpoint, link_place, links_from, peer_ways, service_of}
+use Rattle.roam_realm.specs.RealmConfig.{RealmConfig, link_secret, requester_secret, link_endpoint, link_place, peer_ways, service_of}
 use Rattle.roam_realm.specs.RealmState.{RealmState, Target, with_entries, with_next_ticket, with_rests}
+use Rattle.roam_realm.specs.ServerOrder.{server_targets}
 use Rattle.roam_realm.specs.Rests.{signs_of}
 use Rattle.roam_realm.specs.Shapings.{shaping}
 use Rattle.roam_exchange.specs.Shares.{share_taken}
@@ -130,14 +131,16 @@ coa_links c None = []
 coa_links c (Some peer) = peer_ways c peer
 
 -- ## Targets of a request
--- The links that it may go to, in order: those to the `auth` of the home servers for an Access-Request, to their
--- `acct` for an Accounting-Request; for a reverse request to the `coa` of its one target. To each endpoint there is one
+-- The links that it may go to, in order: those to the `auth` of the home servers that have one for an Access-Request,
+-- to the `acct` of those that have one for an Accounting-Request, in the order of a request's servers; for a reverse
+-- request to the `coa` of its one target. To each endpoint there is one
 -- for each of the realm's `out` of the same kind, IPv4 or IPv6, in their order. It goes to the chosen one of them, and
--- fails over to one that is chosen of those to later servers: a reverse request to none.
+-- fails over to one that is chosen of those to the servers behind its own: a reverse request to none.
 -- Source: RFC 2865 section 2.3, RFC 5176; the order ours
 -- Rules out: a Disconnect for another access server than the one that it names; a failover to the same server by
 -- another `out`; an Identifier of one `out` used for another
--- Stands in: `roam_exchange` `OnRequest.antt`: `targets`; `roam_realm` `RealmConfig.antt`: `later_targets`;
+-- Stands in: `roam_exchange` `OnRequest.antt`: `targets`; `roam_realm` `ServerOrder.antt`: `server_targets`,
+-- `later_targets`;
 -- `Book::request`, `Book::tick`
 --
 -- the targets of a request, in the order of their use: of a reverse request the first peer that takes
@@ -146,7 +149,7 @@ abbrev pub targets : RealmConfig → PlainRequest → List Link
 targets c q =
     if is_reverse q
     then coa_links c (reverse.target c.peers (packet_of q.octets).attributes)
-    else links_from c (service_of (packet_of q.octets).code) 0
+    else server_targets c (service_of (packet_of q.octets).code) q
 
 -- a new request beside these entries: there is a ticket, neither its name's share nor its peer's is taken, a target is
 -- chosen, by which that is put off until which its link rests, and there is a place

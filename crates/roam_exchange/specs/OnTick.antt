@@ -8,7 +8,8 @@ use Rattle.roam_pending.specs.EntryList.{find_ticket, without, put}
 use Rattle.roam_pending.specs.Realms.{sent_again, with_standing}
 use Rattle.roam_sessions.specs.declared.error_cause.TheConstants.{OTHER_PROXY_PROCESSING_ERROR}
 use Rattle.roam_conf.specs.declared.place.Link.{Link}
-use Rattle.roam_realm.specs.RealmConfig.{RealmConfig, later_targets}
+use Rattle.roam_realm.specs.RealmConfig.{RealmConfig}
+use Rattle.roam_realm.specs.ServerOrder.{later_targets}
 use Rattle.roam_realm.specs.RealmState.{RealmState, Target, with_entries, with_rests, chosen_target}
 use Rattle.roam_realm.specs.Rests.{after_choice, after_silence}
 use Rattle.roam_exchange.specs.Turn.{Turn, sends, in_time}
@@ -84,7 +85,7 @@ due_standing c now s e (waiting l id forwarded sends_left deadline signs) =
     }
     else fail_over c now (given_up_at c now l signs s e) e
     (chosen_target c now (after_silence c now s.rests l signs) s.cursors (without e.ticket s.entries)
-    (later_targets c l))
+    (later_targets c e.request l))
 
 -- the entry of a due ticket
 abbrev pub due_entry : RealmConfig → ℕ → RealmState → Option PlainEntry → Progress

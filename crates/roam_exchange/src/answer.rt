@@ -28,7 +28,7 @@ pub struct Turned<A: Allocator> {
     pub happening: Happening<A>,
 }
 
-/// A refusal. Takes no memory.
+/// Makes the answer with a refusal. Takes no memory.
 pub fn refused<A: Allocator>(alloc: A, why: Refusal) -> Answer<A>
     ensures outs { shown_outs result.outs ≡ [] }
     ensures refusal { result.refusal ≡ Some why }
@@ -39,7 +39,7 @@ pub fn refused<A: Allocator>(alloc: A, why: Refusal) -> Answer<A>
     }
 }
 
-/// A refusal, which is all that happened. Takes no memory.
+/// Makes the answer with a refusal, which is all that happened. Takes no memory.
 pub fn refused_turn<A: Allocator>(alloc: A, why: Refusal) -> Turned<A>
     ensures outs { shown_outs result.answer.outs ≡ [] }
     ensures refusal { result.answer.refusal ≡ Some why }
@@ -51,7 +51,7 @@ pub fn refused_turn<A: Allocator>(alloc: A, why: Refusal) -> Turned<A>
     }
 }
 
-/// The answer alone. Takes no memory.
+/// Returns only the answer. Takes no memory.
 pub fn answer_of<A: Allocator>(turned: Result<Turned<A>, NoMemory>) -> Result<Answer<A>, NoMemory>
     ensures gives { (old new : RealmState) (turn : Turn) (happening : happenings.PlainHappening)
         → GivesTurned turned old new turn happening → Gives result old new turn }
@@ -63,7 +63,7 @@ pub fn answer_of<A: Allocator>(turned: Result<Turned<A>, NoMemory>) -> Result<An
     }
 }
 
-/// Nothing is sent, and nothing is refused. Takes no memory.
+/// Makes the answer that sends nothing and refuses nothing. Takes no memory.
 pub fn nothing<A: Allocator>(alloc: A) -> Answer<A>
     ensures outs { shown_outs result.outs ≡ [] }
     ensures refusal { result.refusal ≡ None }
@@ -74,7 +74,7 @@ pub fn nothing<A: Allocator>(alloc: A) -> Answer<A>
     }
 }
 
-/// One packet is sent. Takes no memory.
+/// Makes the answer that sends one packet. Takes no memory.
 pub fn one_packet<A: Allocator>(alloc: A, out: Out<A>) -> Answer<A>
     ensures outs { shown_outs result.outs ≡ shown_out out ∷ [] }
     ensures refusal { result.refusal ≡ None }

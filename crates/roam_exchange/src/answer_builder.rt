@@ -28,7 +28,7 @@ pub struct AnswerBuilder<A: Allocator> {
 }
 
 impl<A: Allocator + Copy> AnswerBuilder<A> {
-    /// None of either, and places for so many of each.
+    /// Makes a builder with no packets and no dues, and with places for so many of each.
     pub fn new(alloc: A, places: usize) -> Result<AnswerBuilder<A>, NoMemory>
         ensures outs { IfOk result (λ o. IsOuts places [] o.sent) }
         ensures dues { IfOk result (λ o. AreDues places [] o.dues) }
@@ -43,7 +43,7 @@ impl<A: Allocator + Copy> AnswerBuilder<A> {
         })
     }
 
-    /// One packet more, where there is a place for it. Takes no memory.
+    /// Adds one packet, where there is a place for it. Takes no memory.
     pub fn push(&mut self, out: Out<A>)
         requires place { vec_len self.old.sent < vec_capacity self.old.sent }
         ensures outs { (places : ℕ) (packets : List PlainOut) → IsOuts (places + 1) packets self.old.sent
@@ -70,7 +70,7 @@ impl<A: Allocator + Copy> AnswerBuilder<A> {
         }
     }
 
-    /// The tick's answer, and what happened. Takes no memory.
+    /// Returns the tick's answer, and what happened. Takes no memory.
     pub fn finish(self) -> Turned<A>
         ensures packets { result.answer.outs ≡ self.sent.items }
         ensures refusal { result.answer.refusal ≡ None }
@@ -87,7 +87,7 @@ impl<A: Allocator + Copy> AnswerBuilder<A> {
         }
     }
 
-    /// A refusal in place of all. Takes no memory.
+    /// Puts a refusal in place of all. Takes no memory.
     pub fn refused(self, alloc: A, why: Refusal) -> Turned<A>
         ensures packets { shown_outs result.answer.outs ≡ [] }
         ensures refusal { result.answer.refusal ≡ Some why }

@@ -13,14 +13,14 @@ pub struct Buffers<A: Allocator> {
     pub kept: Vec<u8, A>,
 }
 
-/// An empty buffer with room for so many octets.
+/// Makes an empty buffer with room for so many octets.
 pub(crate) fn buffer_of<A: Allocator + Copy>(alloc: A, size: usize) -> Result<Vec<u8, A>, NoMemory>
     ensures { IfOk result (λ b. HasRoom size b) }
 {
     Ok(Vec::with_capacity(alloc, size)?)
 }
 
-/// A copy of octets, in an empty buffer that has room for them. Takes no memory.
+/// Copies octets into an empty buffer that has room for them. Takes no memory.
 pub(crate) fn copied_into<A: Allocator>(buffer: Vec<u8, A>, octets: &[u8]) -> Octets<A>
     requires { HasRoom (length octets.now) buffer }
     ensures { result ≡ octets.now }
@@ -31,7 +31,7 @@ pub(crate) fn copied_into<A: Allocator>(buffer: Vec<u8, A>, octets: &[u8]) -> Oc
 }
 
 impl<A: Allocator + Copy> Buffers<A> {
-    /// Buffers with room for so many octets.
+    /// Makes buffers with room for so many octets.
     pub fn new(alloc: A, size: usize) -> Result<Buffers<A>, NoMemory>
         ensures { IfOk result (λ b. HasBuffers size b) }
     {

@@ -4,8 +4,10 @@ ghost use Rattle.std.specs.Prelude.{◌≡◌, ◌≤◌, ◌+◌, ◌^◌, List
 ghost use Rattle.roam_pending.specs.PlainEntry.{PlainEntry, waits_at};
 ghost use Rattle.roam_pending.specs.EntryList.{without};
 ghost use Rattle.roam_pending.specs.Shown.{shown};
+ghost use Rattle.roam_wire.specs.Reading.{IsPacketText};
 ghost use Rattle.roam_admission.specs.Shown.{shown_out};
-ghost use Rattle.roam_realm.specs.RealmConfig.{IsLink, link_count, later_targets};
+ghost use Rattle.roam_realm.specs.RealmConfig.{IsLink, link_count};
+ghost use Rattle.roam_realm.specs.ServerOrder.{later_targets};
 ghost use Rattle.roam_realm.specs.RealmState.{chosen_target};
 ghost use Rattle.roam_realm.specs.Rests.{after_silence};
 ghost use Rattle.roam_exchange.specs.OnRequest.{is_reverse, packet_to_link};
@@ -25,7 +27,7 @@ use crate::forwarding::{
 use roam_admission::{Out, is_reverse_request};
 use roam_conf::Link;
 use roam_pending::{Done, Entry, Standing, Waiting};
-use roam_realm::{RealmNumbers, RealmSettings, ServersFrom, Service};
+use roam_realm::{RealmNumbers, RealmSettings, Service};
 use roam_reply::nak_reserved;
 use roam_sessions::error_cause::OTHER_PROXY_PROCESSING_ERROR;
 use roam_wire::{Octets, View};
@@ -44,7 +46,7 @@ pub enum DueAction<A: Allocator> {
     Refused(Out<A>, Option<Done<A>>),
 }
 
-/// The forwarded packet of a waiting request, once more.
+/// Makes the forwarded packet of a waiting request once more.
 fn packet_again<A: Allocator>(
     settings: &RealmSettings<'_>,
     waiting: &Waiting<A>,
@@ -60,36 +62,34 @@ fn packet_again<A: Allocator>(
     packet_to_link(settings, waiting.link, bytes)
 }
 
-/// The target that is chosen at a moment among those after a link.
+/// Returns the target that is chosen at a moment among those of a request after a link.
 fn later_target<A: Allocator + Copy>(
     settings: &RealmSettings<'_>,
     numbers: &RealmNumbers<A>,
     now: u64,
+    entry: &Entry<A>,
     link: Link,
 ) -> Option<Link>
+    requires request { IsPacketText (shown entry.now).request.octets }
     requires count { length numbers.now.lanes.items ≡ link_count settings.now }
     requires lanes { AreOwnLanes settings.now (marks_of numbers.now.lanes.items) }
     ensures chosen { result ≡ chosen_link settings.now now numbers.now.rests.items
-        numbers.now.lanes.items None (later_targets settings.now link) }
+        numbers.now.lanes.items None
+        (later_targets settings.now (shown entry.now).request link) }
     ensures link { IfSome result (λ l. IsLink settings.now l) }
     ensures free { IfSome result (λ l. has_free (lane_of settings.now numbers.now.lanes.items l)
         ≡ true) }
     ensures made { IfSome result (λ l. (lane_of settings.now numbers.now.lanes.items l).made
         ≡ true) }
 {
+    let request = entry.request.octets.as_slice();
     match link {
         Link::Auth(server, _) => {
-            let servers = ServersFrom {
-                service: Service::Authentication,
-                first: usize::from(server) + 1,
-            };
+            let servers = settings.servers_behind(Service::Authentication, server, request);
             numbers.chosen(settings, now, servers, None)
         }
         Link::Acct(server, _) => {
-            let servers = ServersFrom {
-                service: Service::Accounting,
-                first: usize::from(server) + 1,
-            };
+            let servers = settings.servers_behind(Service::Accounting, server, request);
             numbers.chosen(settings, now, servers, None)
         }
         Link::Coa(_, _) => None,
@@ -116,7 +116,7 @@ fn held_for<A: Allocator>(
     })
 }
 
-/// The NAK of a reverse request that no access server answered (RFC 5176, section 3.5): it is sent,
+/// Makes the NAK of a Disconnect- or CoA-Request that no access server answered (RFC 5176, section 3.5): it is sent,
 /// and held until `now + hold` where replies are held.
 fn refuse<A: Allocator>(
     settings: &RealmSettings<'_>,
@@ -143,7 +143,7 @@ fn refuse<A: Allocator>(
     DueAction::Refused(out, held)
 }
 
-/// A request that no target answers: a reverse request is answered by a NAK, any other just goes.
+/// Gives up a request that no target answers. A Disconnect- or CoA-Request is answered by a NAK, any other just goes.
 fn give_up<A: Allocator>(
     settings: &RealmSettings<'_>,
     now: u64,
@@ -192,18 +192,18 @@ fn fail_over<A: Allocator + Copy>(
         (chosen_target settings.now now
         (after_silence settings.now now numbers.old.rests.items link signs)
         (cursors_of numbers.old.lanes.items) (without entry.now.ticket es)
-        (later_targets settings.now link))) }
+        (later_targets settings.now (shown entry.now).request link))) }
     ensures became { (es : List PlainEntry) → IsHeld settings.now es (shown entry.now) numbers.old
         → became_by result ≡ at_last (shown entry.now).request
         (chosen_target settings.now now
         (after_silence settings.now now numbers.old.rests.items link signs)
         (cursors_of numbers.old.lanes.items) (without entry.now.ticket es)
-        (later_targets settings.now link)) }
+        (later_targets settings.now (shown entry.now).request link)) }
     ensures no_link { KeepsNoLink result }
 {
     numbers.give_back(settings, link, id);
     numbers.count_silence(settings, now, link, signs);
-    let Some(target) = later_target(settings, numbers, now, link) else {
+    let Some(target) = later_target(settings, numbers, now, entry, link) else {
         return give_up(settings, now, entry, buffers);
     };
     let request = RequestRef {

@@ -19,7 +19,7 @@ use roam_realm::RealmSettings;
 use roam_wire::Octets;
 use std::alloc::Allocator;
 
-/// The code of a packet (RFC 2865, section 3).
+/// Returns the code of a packet (RFC 2865, section 3).
 pub fn code_in(octets: &[u8]) -> u8
     ensures { result ≡ code_in octets.now }
 {
@@ -29,7 +29,7 @@ pub fn code_in(octets: &[u8]) -> u8
     }
 }
 
-/// A request as it waits, with its octets where they are kept.
+/// Returns a request as it waits, with its octets where they are kept.
 pub(crate) fn waited_as<A: Allocator>(
     request: &Request<A>,
     ticket: u64,
@@ -66,7 +66,7 @@ fn became_by<A: Allocator>(action: &DueAction<A>) -> Became
     }
 }
 
-/// The octets of a request of which this became, in the buffer that was made for them, where one was.
+/// Copies the octets of a request of which this became into the buffer that was made for them, where one was.
 fn octets_for<A: Allocator>(
     became: Became,
     request: &Request<A>,
@@ -84,7 +84,8 @@ fn octets_for<A: Allocator>(
     }
 }
 
-/// The octets of the last request of a conversation that was left, in the buffer that was made for them, where one was.
+/// Copies the octets of the last request of a conversation that was left into the buffer that was made for them,
+/// where one was.
 fn last_octets<A: Allocator>(request: &Request<A>, buffer: Option<Vec<u8, A>>) -> Option<Octets<A>>
     requires room { HasRequestRoom (is_some buffer) (length request.now.octets + 304) buffer }
     ensures { (lines : ExchangeLines) → is_some buffer ≡ keeps_given_up lines
@@ -96,7 +97,7 @@ fn last_octets<A: Allocator>(request: &Request<A>, buffer: Option<Vec<u8, A>>) -
     }
 }
 
-/// A request as it was answered, with its octets where they are kept.
+/// Returns a request as it was answered, with its octets where they are kept.
 fn answered_as<A: Allocator>(
     request: &Request<A>,
     ticket: u64,

@@ -51,7 +51,7 @@ pub struct Hop<'a> {
     pub link: Link,
 }
 
-/// A packet of the realm toward a link.
+/// Makes a packet of the realm toward a link.
 pub(crate) fn packet_to_link<A: Allocator>(
     settings: &RealmSettings<'_>,
     link: Link,
@@ -68,7 +68,7 @@ pub(crate) fn packet_to_link<A: Allocator>(
     }
 }
 
-/// A packet of the realm back to the sender of a request.
+/// Makes a packet of the realm back to the sender of a request.
 pub fn packet_to_requester<A: Allocator>(
     settings: &RealmSettings<'_>,
     key: Key,
@@ -92,8 +92,8 @@ fn draws(octets: &[u8]) -> bool
     View::of_packet(octets).code() == ACCESS_REQUEST
 }
 
-/// The Authenticator that is drawn for a forwarded packet: the four words of the realm's stream from
-/// this position on (RFC 2865, section 3), and zeros where none is drawn.
+/// Draws the Authenticator for a forwarded packet: the four words of the realm's stream from this position on (RFC
+/// 2865, section 3), and zeros where none is drawn.
 fn drawn_at(
     settings: &RealmSettings<'_>,
     request: RequestRef<'_>,
@@ -110,7 +110,7 @@ fn drawn_at(
     }
 }
 
-/// The position of the realm's stream after it.
+/// Returns the position of the realm's stream after the packet.
 fn position_after(request: RequestRef<'_>, position: u128) -> u128
     requires { IsPacketText request.octets.now }
     ensures { result ≡ position_after (shown_request request.entry) position }

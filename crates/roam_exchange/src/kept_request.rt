@@ -25,7 +25,7 @@ fn keeps_octets(lines: ExchangeLines, code: u8) -> bool
     }
 }
 
-/// A copy of octets, where they are kept.
+/// Copies octets, where they are kept.
 fn copy_if<A: Allocator + Copy>(
     alloc: A,
     is_kept: bool,
@@ -39,8 +39,8 @@ fn copy_if<A: Allocator + Copy>(
     Ok(Some(Octets::copy_of(alloc, octets.as_slice())?))
 }
 
-/// The request of an entry that waits, for which a reply of this code is returned: with its octets where these lines
-/// tell of that.
+/// Returns the request of an entry that waits, for which a reply of this code is returned: with its octets where
+/// these lines tell of that.
 pub(crate) fn answered_request<A: Allocator + Copy>(
     alloc: A,
     lines: ExchangeLines,
@@ -56,7 +56,7 @@ pub(crate) fn answered_request<A: Allocator + Copy>(
     Ok(waited_as(&entry.request, entry.ticket, waiting, octets))
 }
 
-/// The request of an entry that was taken out, where it waited: with its octets, which nobody else has.
+/// Returns the request of an entry that was taken out, where it waited: with its octets, which move out of the entry.
 pub fn waited_in<A: Allocator>(removed: Option<Entry<A>>) -> Option<Waited<A>>
     ensures { shown_replaced result ≡ replaced_by (taken removed) }
 {

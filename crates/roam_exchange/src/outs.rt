@@ -34,7 +34,7 @@ impl<A: Allocator> Model for Outs<A> {
 }
 
 impl<A: Allocator> Outs<A> {
-    /// No packet. Takes no memory.
+    /// Makes a list of no packet. Takes no memory.
     pub fn none(alloc: A) -> Outs<A>
         ensures { result ≡ [] }
     {
@@ -44,7 +44,7 @@ impl<A: Allocator> Outs<A> {
         }
     }
 
-    /// This packet alone. Takes no memory.
+    /// Makes a list of only this packet. Takes no memory.
     pub fn one(alloc: A, out: Out<A>) -> Outs<A>
         ensures { result ≡ out ∷ [] }
     {
@@ -54,7 +54,7 @@ impl<A: Allocator> Outs<A> {
         }
     }
 
-    /// These packets. Takes no memory.
+    /// Makes a list of these packets. Takes no memory.
     pub fn of_vec(outs: Vec<Out<A>, A>) -> Outs<A>
         ensures { result ≡ outs.items }
     {
@@ -71,14 +71,14 @@ impl<A: Allocator> Outs<A> {
         self.one.is_none() && self.others.is_empty()
     }
 
-    /// The one that lies here, and those behind it.
+    /// Returns the packet that lies here, and those behind it.
     pub fn as_parts(&self) -> (Option<&Out<A>>, &[Out<A>])
         ensures { option_to_list (option_copied result.0) ++ result.1.now ≡ self.now }
     {
         (self.one.as_ref(), self.others.as_slice())
     }
 
-    /// The one that lies here, and those behind it.
+    /// Returns the packet that lies here, and those behind it.
     pub fn into_parts(self) -> (Option<Out<A>>, Vec<Out<A>, A>)
         ensures { option_to_list result.0 ++ result.1.items ≡ self }
     {

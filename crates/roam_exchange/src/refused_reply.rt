@@ -16,7 +16,7 @@ use roam_conf::Link;
 use roam_wire::Refusal;
 use std::alloc::Allocator;
 
-/// A reply that isn't taken. Takes no memory.
+/// Makes the outcome of a reply that isn't taken. Takes no memory.
 pub(crate) fn not_taken<A: Allocator>(alloc: A, why: Refusal) -> ReplyOutcome<A>
     ensures outcome { (c : RealmConfig) (e : PlainEntry) (l : Link)
         → IsOutcome c result e l (λ s. refuses why) }
@@ -31,7 +31,7 @@ pub(crate) fn not_taken<A: Allocator>(alloc: A, why: Refusal) -> ReplyOutcome<A>
     }
 }
 
-/// A reply that isn't taken, and is a sign of life of its link. Takes no memory.
+/// Makes the outcome of a reply that isn't taken, and is a sign of life of its link. Takes no memory.
 pub(crate) fn only_heard<A: Allocator>(alloc: A, why: Refusal) -> ReplyOutcome<A>
     ensures outcome { (c : RealmConfig) (e : PlainEntry) (l : Link)
         → IsOutcome c result e l (λ s. hears why (once_heard_from c s l)) }
@@ -53,7 +53,7 @@ fn shows_life(why: Refusal) -> bool
     why.number() == Refusal::BadReplyMessageAuthenticator.number()
 }
 
-/// A reply of which this is wrong. Takes no memory.
+/// Makes the outcome of a reply in which this is wrong. Takes no memory.
 pub(crate) fn faulted<A: Allocator>(alloc: A, why: Refusal) -> ReplyOutcome<A>
     ensures outcome { (c : RealmConfig) (e : PlainEntry) (l : Link)
         → IsOutcome c result e l (λ s. faulted c s l why) }

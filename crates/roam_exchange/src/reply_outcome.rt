@@ -78,7 +78,7 @@ pub struct ReplyContext<'s, 'c, 'r, 'd, A: Allocator> {
     pub keeps_session: bool,
 }
 
-/// The packet that is returned for a reply that was taken, of what passes of it.
+/// Makes the packet that is returned for a reply that was taken, of what passes of it.
 ///
 /// Refused in this order: `ReplyTooLong`, looked at before memory is asked for; `NoMemory`.
 fn returned_packet<A: Allocator + Copy>(
@@ -132,7 +132,7 @@ fn counted_peer(keeps_session: bool, requester: Requester, reply: &View<'_>) -> 
     }
 }
 
-/// A packet goes back to the sender of a request, and is held until `hold` after the moment, with the link that its
+/// Sends a packet back to the sender of a request, and holds it until `hold` after the moment, with the link that its
 /// reply came from.
 fn return_packet<A: Allocator + Copy>(
     context: &ReplyContext<'_, '_, '_, '_, A>,
@@ -168,7 +168,7 @@ fn return_packet<A: Allocator + Copy>(
     })
 }
 
-/// A reply that was taken, for the entry that waits for it.
+/// Returns a reply that was taken, for the entry that waits for it.
 fn return_reply<A: Allocator + Copy>(
     context: &ReplyContext<'_, '_, '_, '_, A>,
     entry: &Entry<A>,
@@ -212,7 +212,7 @@ fn return_reply<A: Allocator + Copy>(
     }
 }
 
-/// A reply to an entry that waits.
+/// Decides on a reply to an entry that waits: where nothing is wrong with the reply, it is returned.
 fn outcome_of<A: Allocator + Copy>(
     context: &ReplyContext<'_, '_, '_, '_, A>,
     entry: &Entry<A>,
@@ -255,7 +255,8 @@ fn outcome_of<A: Allocator + Copy>(
     return_reply(context, entry, waiting, &forwarded)
 }
 
-/// A reply to an entry, as it stands, which may be taken without its session. A reply that isn't taken wants no memory.
+/// Decides on a reply to an entry, as it stands, which may be taken without its session. A reply that isn't taken
+/// wants no memory.
 pub fn to_standing<A: Allocator + Copy>(
     context: &ReplyContext<'_, '_, '_, '_, A>,
     entry: &Entry<A>,

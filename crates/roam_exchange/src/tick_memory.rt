@@ -69,7 +69,7 @@ fn keeps_given_up(lines: ExchangeLines) -> bool
     }
 }
 
-/// A buffer for the octets of a request that may be given up, where they are kept.
+/// Makes a buffer for the octets of a request that may be given up, where they are kept.
 fn request_buffer<A: Allocator + Copy>(
     alloc: A,
     size: usize,
@@ -83,7 +83,7 @@ fn request_buffer<A: Allocator + Copy>(
     Ok(Some(buffer_of(alloc, size)?))
 }
 
-/// The memory for one entry that is due.
+/// Takes the memory for one entry that is due.
 fn slot_for<A: Allocator + Copy, E: Entries<A>>(
     alloc: A,
     realm: u16,
@@ -107,7 +107,7 @@ fn slot_for<A: Allocator + Copy, E: Entries<A>>(
     })
 }
 
-/// The slots of the entries that are due, in order. No memory is wanted where nothing is due.
+/// Makes the slots of the entries that are due, in order. Wants no memory where nothing is due.
 fn slots_for<A: Allocator + Copy, E: Entries<A>>(
     alloc: A,
     realm: u16,
@@ -130,7 +130,7 @@ fn slots_for<A: Allocator + Copy, E: Entries<A>>(
     Ok(slots)
 }
 
-/// All the memory of a tick. No memory is wanted where nothing is due.
+/// Takes all the memory of a tick. Wants no memory where nothing is due.
 pub fn room_for<A: Allocator + Copy, E: Entries<A>>(
     alloc: A,
     realm: u16,

@@ -24,7 +24,7 @@ fn seal_start(request: &View<'_>) -> usize
     }
 }
 
-/// The CHAP-Challenge that is added (RFC 2865, section 5.40).
+/// Returns the CHAP-Challenge that is added (RFC 2865, section 5.40).
 fn challenge_to_add(request: &View<'_>) -> Option<[u8; 16]>
     ensures { challenge_of result ≡ added_challenge request.now }
 {

@@ -48,7 +48,7 @@ fn takes_challenge(request: &View<'_>, removal: &Removal<'_>) -> bool
         && count_without(request, removal, CHAP_CHALLENGE) == 0
 }
 
-/// The CHAP-Challenge that is added to an Access-Request.
+/// Returns the CHAP-Challenge that is added to an Access-Request.
 fn challenge_to_add(request: &View<'_>, removal: &Removal<'_>) -> Option<[u8; 16]>
     ensures { challenge_of result ≡ challenge_first (passing (removed_by removal.now) request.now) }
 {
@@ -74,7 +74,7 @@ fn takes_name(request: &View<'_>, removal: &Removal<'_>) -> bool
     takes_operator_name(request.code()) && count_without(request, removal, OPERATOR_NAME) == 0
 }
 
-/// The Operator-Name that is added, where the peer has one and none passes.
+/// Returns the Operator-Name that is added, where the peer has one and none passes.
 fn operator_name_to_add<'a>(request: &View<'_>, shaping: &Shaping<'a>) -> Option<&'a [u8]>
     requires { HasShortName (shown_shaping shaping.now) }
     ensures name { name_of (option_map (λ name. name.now) result)
@@ -120,12 +120,12 @@ pub(crate) fn added_to<'a>(request: &View<'_>, shaping: &Shaping<'a>) -> Added<'
     }
 }
 
-/// A name's octets are octets. It does nothing when it runs.
+/// Shows that a name's octets are octets. Does nothing when it runs.
 fn are_octets(name: &[u8])
     ensures { AreOctets name.now }
 {}
 
-/// So are those of an Operator-Name, if there is one.
+/// Shows that the octets of an Operator-Name are octets, if there is one.
 pub(crate) fn are_octets_of(name: Option<&[u8]>)
     ensures { ForSome (option_map (λ name. name.now) name.entry) AreOctets }
 {

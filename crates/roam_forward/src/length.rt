@@ -44,9 +44,9 @@ fn access_growth(request: &View<'_>) -> usize
     seal + challenge
 }
 
-/// The size of the packet that is forwarded for a request, in octets: 10 to `MAX_GROWTH` more than the
-/// request has.
-/// A packet of more than 4096 isn't forwarded. Takes no memory; at most three passes over the attributes.
+/// Computes the size of the packet that is forwarded for a request, in octets: 10 to `MAX_GROWTH` more than the
+/// request has. A packet of more than 4096 isn't forwarded. Takes no memory; at most three passes over the
+/// attributes.
 #[tactic(auto, unfolding(crate::specs::Forwarded::forwarded_length))]
 pub fn forwarded_len(request: &View<'_>) -> usize
     ensures size { result ≡ forwarded_length request.now }

@@ -13,7 +13,7 @@ use roam_wire::View;
 use roam_wire::writing::append_octets;
 use std::alloc::Allocator;
 
-/// The octets of a packet's attributes.
+/// Returns the octets of a packet's attributes.
 fn all_octets<'a>(view: &View<'a>) -> &'a [u8]
     ensures text { result.now ≡ attributes_text view.now.attributes }
     ensures few { length result.now ≤ 4076 }

@@ -14,7 +14,7 @@ use roam_wire::attribute_type::VENDOR_SPECIFIC;
 use roam_wire::writing::{append_attribute, append_octets};
 use std::alloc::Allocator;
 
-/// The octets behind a vendor.
+/// Returns the octets behind a vendor.
 fn behind_vendor(value: &[u8]) -> &[u8]
     requires { 4 ≤ length value.now }
     ensures { result.now ≡ drop 4 value.now }
@@ -22,7 +22,7 @@ fn behind_vendor(value: &[u8]) -> &[u8]
     value.split_at(4).1
 }
 
-/// A vendor's octets.
+/// Returns a vendor's octets.
 fn vendor_octets(value: &[u8]) -> &[u8]
     requires { 4 ≤ length value.now }
     ensures { result.now ≡ take 4 value.now }

@@ -27,7 +27,7 @@ fn has_vendor(attribute: &Attr<'_>) -> bool
     attribute.kind == VENDOR_SPECIFIC && attribute.value.len() >= 4
 }
 
-/// The vendor in the first four octets of a value.
+/// Returns the vendor in the first four octets of a value.
 pub(crate) fn vendor_of(value: &[u8]) -> u32
     requires { 4 ≤ length value.now }
     ensures { result ≡ vendor_of value.now }

@@ -13,7 +13,7 @@ use roam_wire::View;
 use roam_wire::attribute_type::{CHAP_CHALLENGE, PROXY_STATE};
 use roam_wire::writing::EMPTY_MESSAGE_AUTHENTICATOR;
 
-/// The packet whose octets are the first ones.
+/// Returns the packet whose octets are the first `len` ones.
 pub(crate) fn front_packet(octets: &[u8], len: usize) -> View<'_>
     requires inside { len ≤ length octets.now }
     requires packet { IsPacketText (take len octets.now) }

@@ -17,7 +17,7 @@ pub struct Removal<'a> {
     pub keeps_session: bool,
 }
 
-/// No list names an attribute.
+/// Makes the removal whose lists name no attribute.
 #[tactic(auto, unfolding(crate::specs::Removal::removed_by))]
 pub fn nothing_removed() -> Removal<'static>
     ensures { removed_by result ≡ [] }

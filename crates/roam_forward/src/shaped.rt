@@ -30,7 +30,7 @@ use std::alloc::Allocator;
 /// ticket, a Message-Authenticator, a CHAP-Challenge, an Operator-Name and a Chargeable-User-Identity.
 pub(crate) const MAX_SHAPED_GROWTH: usize = 304;
 
-/// The size of a request as it is shaped, in octets, where this is added to it.
+/// Computes the size of a request as it is shaped, in octets, where this is added to it.
 fn len_with(request: &View<'_>, shaping: &Shaping<'_>, added: &Added<'_>) -> usize
     requires added { shown_added added.now ≡ all_added (shown_shaping shaping.now) request.now }
     requires short { ForSome (option_map (λ name. name.now) added.now.operator_name) (λ name. length name ≤ 253) }
@@ -65,8 +65,8 @@ fn growth(request: &View<'_>, shaping: &Shaping<'_>) -> usize
     }
 }
 
-/// The size of the packet that is forwarded for a request as it is shaped, in octets. A packet of more than 4096
-/// isn't forwarded. Takes no memory.
+/// Computes the size of the packet that is forwarded for a request as it is shaped, in octets. A packet of more than
+/// 4096 isn't forwarded. Takes no memory.
 pub fn forwarded_shaped_len(request: &View<'_>, shaping: &Shaping<'_>) -> usize
     requires { HasShortName (shown_shaping shaping.now) }
     ensures size { result ≡ forwarded_length (shaped (shown_shaping shaping.now) request.now) }

@@ -16,7 +16,7 @@ pub struct Shaping<'a> {
     pub ask_cui: bool,
 }
 
-/// Nothing is done to a request.
+/// Makes the shaping that does nothing to a request.
 pub fn no_shaping() -> Shaping<'static>
     ensures { shown_shaping result ≡ no_shaping }
 {

@@ -34,7 +34,7 @@ impl<A: Allocator, N: Opened> Drop for Audited<A, N> {
 }
 
 impl<A: Allocator, N: Opened> Audited<A, N> {
-    /// The report. Takes no memory.
+    /// Returns the report. Takes no memory.
     pub fn report(&self) -> &Report<A, N>
         ensures { result.now ≡ self.now.report }
     {
@@ -51,7 +51,7 @@ impl<A: Allocator, N: Opened> Report<A, N> {
         seat.front(shard as u16).begins_whole(&self.fronts[shard]);
     }
 
-    /// So does all that it has seen of each shard.
+    /// Checks that all that a seat has seen of each shard begins that shard's history here, which is whole.
     fn has_all_of(&self, seat: &Seat<A, N>)
         ensures { HasSeen N.opening.config.shards (whole_of self.now) seat.now }
     {

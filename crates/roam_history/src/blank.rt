@@ -27,7 +27,7 @@ impl Drop for Blank {
 }
 
 impl Blank {
-    /// A history with no entry. Takes no memory.
+    /// Makes a history with no entry. Takes no memory.
     pub fn new() -> Blank {
         let (seen, mut first, _second) = Seen::open(Start::alone(), 0, 0);
         Blank {

@@ -14,7 +14,7 @@ pub struct Blanks<A: Allocator> {
 }
 
 impl<A: Allocator> Blanks<A> {
-    /// So many of them.
+    /// Makes so many histories with no entry.
     pub fn new(alloc: A, shards: u16) -> Result<Blanks<A>, NoMemory>
         ensures { IfOk result (λ b. count_of b ≡ shards) }
     {

@@ -26,7 +26,7 @@ impl HubFault {
     ghost use Rattle.std.specs.Prelude.{◌≡◌};
     ghost use Rattle.roam_history.specs.Faults.{refusal_of};
 
-    /// The refusal that the fault is told as.
+    /// Returns the refusal that the fault is told as.
     pub fn refusal(self) -> Refusal
         ensures { result ≡ refusal_of self }
     {

@@ -87,7 +87,7 @@ fn added<N: Opened, X, M: Plain<X, HistoryEntry, u64>>(
 }
 
 impl<N: Opened> Front<N> {
-    /// The front that has seen nothing.
+    /// Makes the front that has seen nothing.
     pub(crate) fn new(shard: u16, seen: Seen<HistoryEntry, u64, OneHistory>) -> Front<N>
         requires book { seen.book ≡ N.books shard }
         requires empty { seen.log ≡ [] }
@@ -124,14 +124,14 @@ impl<N: Opened> Front<N> {
         self.entries
     }
 
-    /// Of which shard it is. Takes no memory.
+    /// Returns the shard of which it is. Takes no memory.
     pub fn shard(&self) -> u16
         ensures { result ≡ self.now.shard }
     {
         self.shard
     }
 
-    /// The same. Takes no memory.
+    /// Returns the same front again. Takes no memory.
     pub fn again(&self) -> Front<N>
         ensures { result ≡ self.now }
     {
@@ -199,7 +199,8 @@ impl<N: Opened> Front<N> {
         })
     }
 
-    /// The same, with an entry which says that the stored steps were let go of.
+    /// Adds an entry which says that the stored steps were dropped to all that was seen here, where no more was ever
+    /// added, and returns what is seen then. Returns `None` where more was: nothing is added then. Takes no memory.
     pub fn without_steps(&self, head: &Head<N>) -> Option<Front<N>>
         requires shard { head.now.shard ≡ self.now.shard }
         requires room { length self.now.entries < 2 ^ 64 - 1 }
@@ -219,7 +220,9 @@ impl<N: Opened> Front<N> {
             hub: PhantomData,
         })
     }
-    /// The same, with an entry which says that the history is closed: it is whole then, and nothing is added any more.
+    /// Adds an entry which says that the history is closed, where no more was ever added, and returns what is seen
+    /// then: it is whole, and nothing is added any more. Returns `None` where more was: nothing is added then. Takes
+    /// no memory.
     pub fn closed(&self, head: &Head<N>) -> Option<Front<N>>
         requires shard { head.now.shard ≡ self.now.shard }
         requires room { length self.now.entries < 2 ^ 64 - 1 }

@@ -29,7 +29,7 @@ impl<N: Opened> Drop for Head<N> {
 }
 
 impl<N: Opened> Head<N> {
-    /// The word of a history. Takes no memory.
+    /// Makes the word of a history. Takes no memory.
     pub(crate) fn new(shard: u16, word: Word<HistoryEntry, u64, OneHistory>) -> Head<N>
         requires { word ≡ head_of (N.books shard) }
         ensures { result.shard ≡ shard }

@@ -13,7 +13,7 @@ pub const MOST: u64 = 64;
 /// Ticks that are later than so many milliseconds are made up for at once.
 pub const LATE: u64 = 100;
 
-/// A moment between two; none where nothing is between them.
+/// Returns a moment between two, or `None` where nothing is between them.
 fn between(few: u64, many: u64) -> Option<u64>
     requires { few < many }
     ensures some { IfSome result (λ m. (few < m) × (m < many)) }
@@ -26,7 +26,8 @@ fn between(few: u64, many: u64) -> Option<u64>
     Some(few + apart / 2)
 }
 
-/// A moment at which few entries are due, and a later one at which some are, after a look at one between them.
+/// Returns a moment at which few entries are due, and a later one at which some are, after a look at one between
+/// them.
 fn narrowed<A: Allocator + Copy>(
     shard: &Shard<'_, A>,
     few: u64,
@@ -47,8 +48,8 @@ fn narrowed<A: Allocator + Copy>(
     (few, middle)
 }
 
-/// Between a moment at which few entries are due and a later one at which some are, the last moment at which few are:
-/// or the first at which any is, where those are many.
+/// Finds the last moment at which few entries are due, between one at which few are and a later one at which some
+/// are; or the first at which any is, where those are many.
 fn parted<A: Allocator + Copy>(shard: &Shard<'_, A>, quiet: u64, now: u64) -> u64
     requires quiet { NothingDue quiet shard.now.states }
     requires due { NothingDue now shard.now.states → ⊥ }
@@ -69,10 +70,10 @@ fn parted<A: Allocator + Copy>(shard: &Shard<'_, A>, quiet: u64, now: u64) -> u6
     many
 }
 
-/// The moment of a tick of a shard in which something is due at `now`, in milliseconds: `now`, where few entries are
-/// due. Else the last moment at which few were, or the first at which any was. What has been due for long is worked
-/// off at `now`, however much it is: at the moments of long ago a request would be due again at once, and be sent
-/// twice in a row.
+/// Returns the moment of a tick of a shard in which something is due at `now`, in milliseconds: `now`, where few
+/// entries are due. Else the last moment at which few were, or the first at which any was. Entries that have been due
+/// for long are worked off at `now`, however many there are: at the moments of long ago a request would be due again
+/// at once, and be sent twice in a row.
 pub fn moment_of_tick<A: Allocator + Copy>(shard: &Shard<'_, A>, now: u64) -> u64
     requires { NothingDue now shard.now.states → ⊥ }
     ensures { IsTickMoment now shard.now.states result }

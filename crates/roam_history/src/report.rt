@@ -58,10 +58,10 @@ impl<A: Allocator, N: Opened> Report<A, N> {
     ghost use Rattle.roam_history.specs.Shown.{recorded, shown_receipts, whole_of};
     ghost use Rattle.roam_history.specs.Audit.{IsInOrder, IsFirstUneven, AreOfFirstWrong};
 
-    /// For tests: compares what was recorded with what the callers have. Takes no memory.
+    /// For tests. Compares what was recorded with what the callers have. Takes no memory.
     ///
-    /// Each shard is looked at before any receipt. All steps count, those that were let go of too, and how often that
-    /// was. A receipt costs a comparison of its number and a look at the receipts before it.
+    /// Each shard is looked at before any receipt. All steps count, also those that were dropped, and how often steps
+    /// were dropped. A receipt costs a comparison of its number and a look at the receipts before it.
     pub fn audit(&self, seats: &[Seat<A, N>], receipts: &[Receipt<A, N>]) -> Result<(), AuditFault>
         ensures ok { IsOk result
             ↔ IsInOrder (recorded self.now) (whole_of self.now) seats.now (shown_receipts receipts.now) }

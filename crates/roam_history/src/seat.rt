@@ -52,7 +52,7 @@ impl<A: Allocator, N: Opened> Model for Seat<A, N> {
 }
 
 impl<A: Allocator, N: Opened> Seat<A, N> {
-    /// For tests: what is counted, by shard.
+    /// For tests. Returns what is counted, by shard.
     pub fn tallies(&self) -> &[Tally]
         ensures tallies { result.now ≡ self.now.tallies }
         ensures shards { length result.now ≡ N.opening.config.shards }
@@ -160,7 +160,7 @@ pub fn no_tallies<A: Allocator>(alloc: A, shards: usize) -> Result<Vec<Tally, A>
     Ok(tallies)
 }
 
-/// Counts of no letting go, for so many shards.
+/// Makes counts that say that no steps were dropped, for so many shards.
 pub fn no_times<A: Allocator>(alloc: A, shards: usize) -> Result<Vec<u64, A>, NoMemory>
     ensures { IfOk result (λ v. v.items ≡ no_times shards) }
 {
@@ -168,7 +168,7 @@ pub fn no_times<A: Allocator>(alloc: A, shards: usize) -> Result<Vec<u64, A>, No
     Ok(times)
 }
 
-/// Equal fronts.
+/// Makes equal fronts.
 fn copies<A: Allocator, N: Opened>(
     alloc: A,
     fronts: &[Front<N>],
@@ -183,7 +183,7 @@ fn copies<A: Allocator, N: Opened>(
 }
 
 impl<A: Allocator + Copy, N: Opened> Seat<A, N> {
-    /// A seat that counted no call, let go of nothing, and has seen these fronts, one for each shard.
+    /// Makes a seat that counted no call, dropped nothing, and has seen these fronts, one for each shard.
     pub fn new(alloc: A, fronts: Vec<Front<N>, A>) -> Result<Seat<A, N>, NoMemory>
         requires count { vec_len fronts ≡ N.opening.config.shards }
         requires shards { AreOfShards fronts.items }
@@ -202,7 +202,8 @@ impl<A: Allocator + Copy, N: Opened> Seat<A, N> {
         })
     }
 
-    /// The same, over counts of nothing. Takes no memory.
+    /// Makes a seat that counted no call, dropped nothing, and has seen these fronts, one for each shard, over counts
+    /// of nothing. Takes no memory.
     pub fn over(tallies: Vec<Tally, A>, times: Vec<u64, A>, fronts: Vec<Front<N>, A>) -> Seat<A, N>
         requires tallies { tallies.items ≡ no_tallies N.opening.config.shards }
         requires times { times.items ≡ no_times N.opening.config.shards }
@@ -222,8 +223,8 @@ impl<A: Allocator + Copy, N: Opened> Seat<A, N> {
     }
 }
 
-/// The seat as it was, and another one that has seen as much, counted no call and let go of nothing. Where memory is
-/// wanted the seat comes back as it was.
+/// Returns the seat as it was, and another one that has seen as much, counted no call and dropped nothing. Where
+/// memory is wanted the seat comes back as it was.
 pub fn split<A: Allocator + Copy, N: Opened>(
     seat: Seat<A, N>,
 ) -> Result<(Seat<A, N>, Seat<A, N>), (Seat<A, N>, NoMemory)>

@@ -77,8 +77,8 @@ impl<'c, A: Allocator + Copy, N: Opened> Hub<'c, A, N> {
 
     /// For tests and rows.
     ///
-    /// The same, of a job that stays the caller's: its octets are copied before the lock is taken, for the
-    /// stored step and for the receipt.
+    /// Gives a job that stays the caller's to its shard, and answers with a receipt. The job's octets are copied
+    /// before the lock is taken, for the stored step and for the receipt.
     ///
     /// # Errors
     ///
@@ -121,7 +121,7 @@ impl<'c, A: Allocator + Copy, N: Opened> Hub<'c, A, N> {
 
     /// For tests and rows.
     ///
-    /// A tick of a shard, at a moment in milliseconds, for whose lock it waits.
+    /// Does a tick of a shard, at a moment in milliseconds, for whose lock it waits.
     ///
     /// # Errors
     ///
@@ -157,13 +157,13 @@ impl<'c, A: Allocator + Copy, N: Opened> Hub<'c, A, N> {
         Ok(receipt_of(seat, Event::Tick { now, shard }, answered))
     }
 
-    /// A tick of a shard where something is due in it at the call's moment, and no receipt. None where nothing is
-    /// due: nothing is stored then, and no memory is wanted. With the answer comes what became of each request that was
-    /// due and waited, in order.
+    /// Does a tick of a shard where something is due in it at the call's moment, and makes no receipt. Returns `None`
+    /// where nothing is due: nothing is stored then, and no memory is wanted. With the answer comes what became of
+    /// each request that was due and waited, in order.
     ///
     /// Where many entries are due, the tick's moment is an earlier one, at which few were, or the first at which any
-    /// was; only what has been due for long is worked off at once. The caller asks again until no more is due: between
-    /// two calls others have the lock.
+    /// was; only what has been due for long is worked off at once. The caller asks again until no more is due:
+    /// between two calls others have the lock.
     ///
     /// # Errors
     ///
@@ -229,7 +229,7 @@ impl<'c, A: Allocator + Copy, N: Opened> Hub<'c, A, N> {
     }
 }
 
-/// The receipt of a call that was recorded, as its seat has seen it. Takes no memory.
+/// Makes the receipt of a call that was recorded, as its seat has seen it. Takes no memory.
 fn receipt_of<A: Allocator, N: Opened>(
     seat: &Seat<A, N>,
     event: Event<A>,

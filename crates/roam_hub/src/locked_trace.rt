@@ -64,7 +64,7 @@ impl<'c, A: Allocator, N: Opened> Model for LockedTrace<'c, A, N> {
 }
 
 impl<'c, A: Allocator + Copy, N: Opened> LockedTrace<'c, A, N> {
-    /// A shard of the hub where its history begins, which is empty yet, to lie under a lock. Takes no memory.
+    /// Makes a shard of the hub where its history begins, which is empty yet, to lie under a lock. Takes no memory.
     pub(crate) fn new(
         traced: Traced<'c, A>,
         front: Front<N>,
@@ -100,8 +100,8 @@ impl<'c, A: Allocator + Copy, N: Opened> LockedTrace<'c, A, N> {
         seat.front(shard).begins(&self.front)
     }
 
-    /// The same, and whether it has room for one entry more beside the one that closes it. `Misplaced` and `NoMemory`
-    /// say what fails.
+    /// Checks that it is of this shard, goes on from what a seat has seen of it, and has room for one entry more
+    /// beside the one that closes it. `Misplaced` and `NoMemory` say what fails.
     fn check(&self, seat: &Seat<A, N>, shard: u16) -> Result<(), HubFault>
         requires { shard < N.opening.config.shards }
         ensures shard { OnOk result (self.now.front.shard ≡ shard) }
@@ -166,8 +166,7 @@ impl<'c, A: Allocator + Copy, N: Opened> LockedTrace<'c, A, N> {
         }
     }
 
-    /// A tick of this shard, whose step is stored with the answer that is returned. The seat counts the
-    /// call.
+    /// Does a tick of this shard, whose step is stored with the answer that is returned. The seat counts the call.
     ///
     /// # Errors
     ///

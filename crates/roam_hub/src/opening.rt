@@ -17,8 +17,8 @@ use roam_wire::NoMemory;
 use std::alloc::Allocator;
 use std::sync::Mutex;
 
-/// A shard at its opening, of which nothing is recorded yet, to lie under its lock, and what is seen of its history:
-/// nothing.
+/// Makes a shard at its opening, of which nothing is recorded yet, to lie under its lock. Returns it, and what is
+/// seen of its history: nothing.
 fn kept_at<'c, A: Allocator + Copy, N: Opened>(
     alloc: A,
     config: &'c Config,
@@ -41,9 +41,9 @@ fn kept_at<'c, A: Allocator + Copy, N: Opened>(
 }
 
 impl<'c, A: Allocator + Copy, N: Opened> Hub<'c, A, N> {
-    /// A hub whose realms begin at these starts, one for each realm, by its index, and the first seat.
-    /// Nothing is recorded yet, and so nothing is stored. `NoMemory` comes where a growth was refused;
-    /// nothing of the hub is left then.
+    /// Opens a hub whose realms begin at these starts, one for each realm, by its index, and the first seat. Nothing
+    /// is recorded yet, and so nothing is stored. `NoMemory` comes where a growth was refused; nothing of the hub is
+    /// left then.
     pub fn open(
         alloc: A,
         config: &'c Config,

@@ -29,7 +29,7 @@ pub struct PauseRoom<'c, A: Allocator, N: Opened> {
 }
 
 impl<'c, A: Allocator + Copy, N: Opened> PauseRoom<'c, A, N> {
-    /// The memory with which a hub of this configuration is paused, which needn't be open yet.
+    /// Takes the memory with which a hub of this configuration is paused, which needn't be open yet.
     pub fn new(alloc: A, config: &'c Config) -> Result<PauseRoom<'c, A, N>, NoMemory>
         requires { shown config.now ≡ N.opening.config }
     {

@@ -29,7 +29,7 @@ pub struct PausedHub<A: Allocator, N: Opened> {
     pub shards: Vec<Paused<A>, A>,
 }
 
-/// The shards, taken from their configuration, in a list with room. Takes no memory.
+/// Lists the shards, taken from their configuration, in a list with room. Takes no memory.
 fn all_paused<A: Allocator + Copy>(
     shards: Vec<Shard<'_, A>, A>,
     mut paused: Vec<Paused<A>, A>,
@@ -43,8 +43,8 @@ fn all_paused<A: Allocator + Copy>(
     paused
 }
 
-/// A shard that goes on, of which nothing is recorded yet, to lie under its lock, and what is seen of its history:
-/// nothing.
+/// Makes a shard that goes on, of which nothing is recorded yet, to lie under its lock. Returns it, and what is seen
+/// of its history: nothing.
 fn kept_over<'c, A: Allocator + Copy, N: Opened>(
     alloc: A,
     config: &'c Config,
@@ -114,8 +114,8 @@ impl<'c, A: Allocator + Copy, N: Opened> Hub<'c, A, N> {
         Ok(PausedHub { report, shards })
     }
 
-    /// A hub over shards that stand under this configuration, one for each number, and the first seat. Nothing is
-    /// recorded yet: the history of each shard begins where it stands.
+    /// Opens a hub over shards that stand under this configuration, one for each number, and the first seat. Nothing
+    /// is recorded yet: the history of each shard begins where it stands.
     ///
     /// # Errors
     ///

@@ -14,7 +14,7 @@ use roam_shard::Traced;
 use std::alloc::Allocator;
 use std::sync::Wait;
 
-/// The front with the last step of a trace more, which was answered so.
+/// Returns the front with the last step of a trace more, which was answered so.
 fn with_step<R: Wait, A: Allocator, N: Opened>(
     rt: &R,
     head: &Head<N>,
@@ -39,7 +39,7 @@ fn with_step<R: Wait, A: Allocator, N: Opened>(
     unreachable!()
 }
 
-/// The front with an entry more which says that the stored steps were let go of.
+/// Returns the front with an entry more which says that the stored steps were dropped.
 pub(crate) fn without_steps<R: Wait, N: Opened>(
     rt: &R,
     head: &Head<N>,
@@ -61,7 +61,7 @@ pub(crate) fn without_steps<R: Wait, N: Opened>(
     unreachable!()
 }
 
-/// The front with an entry more which says that the history is closed.
+/// Returns the front with an entry more which says that the history is closed.
 pub(crate) fn closed<R: Wait, N: Opened>(rt: &R, head: &Head<N>, front: &Front<N>) -> Front<N>
     requires shard { head.now.shard ≡ front.now.shard }
     requires room { length front.now.entries < 2 ^ 64 - 1 }
@@ -79,9 +79,8 @@ pub(crate) fn closed<R: Wait, N: Opened>(rt: &R, head: &Head<N>, front: &Front<N
     unreachable!()
 }
 
-/// The last step of a trace, which was answered so, becomes the last of the whole history, which the seat has then
-/// seen; the seat
-/// counts the call. The number under which it does.
+/// Records the last step of a trace, which was answered so, as the last of the whole history, which the seat has then
+/// seen. The seat counts the call. Returns the number under which it does.
 pub(crate) fn recorded<R: Wait, A: Allocator + Copy, N: Opened>(
     rt: &R,
     seat: &mut Seat<A, N>,

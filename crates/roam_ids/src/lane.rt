@@ -39,7 +39,7 @@ impl Model for Lane {
 }
 
 impl Lane {
-    /// A lane with this tag, of which nothing is in use. Its cursor is 0.
+    /// Makes a lane with this tag, in which no Identifier is in use. Its cursor is 0.
     pub fn new(tag: u32) -> Lane
         ensures tag { result.tag ≡ tag }
         ensures cursor { result.cursor ≡ 0 }
@@ -97,7 +97,7 @@ impl Lane {
         Some((IdSlot { tag: self.tag, id }, ticket))
     }
 
-    /// The ticket that is parked at an Identifier.
+    /// Returns the ticket that is parked at an Identifier.
     pub fn holder(&self, id: u8) -> Option<u64>
         ensures ticket { result ≡ ticket_at self.now id }
         ensures whole { HasIdentifiers self.now }
@@ -125,15 +125,15 @@ impl Lane {
         self.put(id, IdState::Free);
     }
 
-    /// The Identifiers in use as bits: bit `i mod 64` of word `i / 64`, rounded down, is set just
-    /// where Identifier `i` is in use.
+    /// Returns the Identifiers in use as bits: bit `i mod 64` of word `i / 64`, rounded down, is set just where
+    /// Identifier `i` is in use.
     pub fn words(&self) -> &[u64; 4]
         ensures { (id : ℕ) → id < 256 → is_marked result.now id ≡ is_used self.now id }
     {
         &self.words
     }
 
-    /// The lane with another tag: a slot that is still out is of no lane then.
+    /// Gives the lane another tag: a slot that is still out is of no lane then.
     pub fn retag(&mut self, tag: u32)
         ensures { self.new ≡ with_tag tag self.old }
     {

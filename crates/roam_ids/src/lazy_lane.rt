@@ -32,7 +32,7 @@ impl<A: Allocator> Model for LazyLane<A> {
 }
 
 impl<A: Allocator> LazyLane<A> {
-    /// A lane with this tag, of which nothing is in use. It isn't made.
+    /// Returns a lane with this tag, in which no Identifier is in use. Its places aren't made yet.
     pub fn new(alloc: A, tag: u32) -> LazyLane<A>
         ensures tag { result.tag ≡ tag }
         ensures cursor { result.cursor ≡ 0 }
@@ -89,7 +89,7 @@ impl<A: Allocator> LazyLane<A> {
         self.lane[0].claim(id)
     }
 
-    /// The ticket that is parked at an Identifier.
+    /// Returns the ticket that is parked at an Identifier.
     pub fn holder(&self, id: u8) -> Option<u64>
         ensures ticket { result ≡ ticket_at self.now id }
         ensures whole { HasIdentifiers self.now }
@@ -124,7 +124,7 @@ impl<A: Allocator> LazyLane<A> {
         self.lane[0].free(slot);
     }
 
-    /// The lane with another tag: it is another link's place from then on, with what is parked there. A slot that is
+    /// Gives the lane another tag: it is another link's lane from then on, with what is parked there. A slot that is
     /// still out is of no lane then. Takes no memory.
     pub fn retag(&mut self, tag: u32)
         ensures { self.new ≡ with_tag tag self.old }

@@ -21,14 +21,14 @@ impl Model for IdSlot {
 }
 
 impl IdSlot {
-    /// For tests: the tag of the lane that gave it out.
+    /// For tests. Returns the tag of the lane that gave the slot out.
     pub fn tag(&self) -> u32
         ensures { result ≡ self.now.tag }
     {
         self.tag
     }
 
-    /// The Identifier.
+    /// Returns the Identifier.
     pub fn id(&self) -> u8
         ensures { result ≡ self.now.id }
     {

@@ -5,7 +5,7 @@ ghost use Rattle.std.specs.Int.{bit_at};
 ghost use Rattle.roam_ids.specs.NextIdentifier.{next_identifier, AllUsed};
 ghost use Rattle.roam_ids.specs.Marks.{is_marked};
 
-/// The lowest bit of the word, at `low` or above it, that isn't set. `low` is below 64.
+/// Finds the lowest bit of the word, at `low` or above it, that isn't set. `low` is below 64.
 fn lowest_clear_bit(word: u64, low: u8) -> Option<u8>
     requires { low < 64 }
     ensures clear { IfSome result (λ bit. bit_at word bit ≡ 0) }
@@ -21,10 +21,10 @@ fn lowest_clear_bit(word: u64, low: u8) -> Option<u8>
     Some(clear.trailing_zeros() as u8)
 }
 
-/// The next free Identifier: the first at or after the cursor, cyclic, whose bit isn't set.
+/// Finds the next free Identifier: the first at or after the cursor, cyclic, whose bit isn't set.
 ///
-/// The cursor's word is looked at twice: at first from the cursor's bit on, at last as a whole,
-/// where only the bits below the cursor's can be clear.
+/// The cursor's word is looked at twice: at first from the cursor's bit on, at last as a whole, where only the bits
+/// below the cursor's can be clear.
 pub(crate) fn next_free(words: &[u64; 4], cursor: u8) -> Option<u8>
     ensures { result ≡ next_identifier (is_marked words.now) cursor }
 {

@@ -8,7 +8,7 @@ use roam_port::Heard;
 use roam_sockets::Receiver;
 use std::alloc::Global;
 
-/// What a worker hears datagrams from, one after the other: in a server a socket of the system.
+/// Gives a worker datagrams, one after the other: in a server it is a socket of the system.
 pub trait Hearing {
     /// Says that from one state to another just this was heard.
     ghost hears: { Self → Self → Heard Global → Type 0 };

@@ -6,7 +6,7 @@ ghost use Rattle.roam_intake.specs.JobCounts.{IsRaisedAt};
 
 use std::alloc::{AllocError, Global};
 
-/// How many jobs were handed on to the queue of a worker, and taken over from it: by one thread, or by all.
+/// Counts the jobs that one thread, or all, handed on to a worker's queue and took over from it.
 #[derive(Clone, Copy, PartialEq, Eq)]
 pub struct JobCounts {
     pub handed_on: u64,

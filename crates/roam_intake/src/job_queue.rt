@@ -11,7 +11,7 @@ use std::alloc::Global;
 use std::collections::VecDeque;
 use std::mem;
 
-/// How many jobs wait for one worker at most.
+/// Limits how many jobs wait for one worker.
 pub const MOST_JOBS: usize = 1024;
 
 /// The jobs that wait for a worker, in the order in which they were handed on, and how many came and went. A worker
@@ -19,9 +19,9 @@ pub const MOST_JOBS: usize = 1024;
 pub(crate) struct JobQueue<N: Opened> {
     jobs: Jobs<N>,
     is_open: bool,
-    /// How many jobs were put behind others here.
+    /// Counts the jobs that were put behind others here.
     handed_on: u64,
-    /// How many of them were taken from the front.
+    /// Counts those that were taken from the front.
     taken_over: u64,
     ghost few: { deque_len jobs ≤ 1024 },
     ghost closed: { is_open ≡ false → jobs.items ≡ [] },

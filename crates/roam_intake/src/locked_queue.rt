@@ -11,7 +11,7 @@ use std::alloc::{AllocError, Global};
 use std::sync::atomic::{AtomicU64, Ordering};
 use std::sync::{Mutex, Wait};
 
-/// Where a worker finds the jobs that others received for its shard, and when it ticked that last.
+/// Holds the jobs that others received for a worker's shard, and the time at which the worker last ticked that shard.
 pub struct LockedQueue<N: Opened> {
     queue: Mutex<JobQueue<N>>,
     /// In milliseconds since the server's start.

@@ -21,7 +21,7 @@ pub trait KeepsFiles {
 }
 
 impl Keeper {
-    /// Nothing is to be written.
+    /// Makes a keeper with nothing to write.
     pub fn new() -> Keeper {
         Keeper {
             turn: Mutex::new(Turn::Free),

@@ -17,7 +17,7 @@ fn mode() -> u32
     0o600
 }
 
-/// A path with `.new` behind it.
+/// Makes a path with `.new` behind it.
 fn named_new(alloc: Global, path: &str) -> Result<String, AllocError>
     ensures { IfOk result (λ beside. beside.bytes.items ≡ path.now ++ codes ".new") }
 {
@@ -26,7 +26,7 @@ fn named_new(alloc: Global, path: &str) -> Result<String, AllocError>
     Ok(beside)
 }
 
-/// A path with `.old` behind it.
+/// Makes a path with `.old` behind it.
 fn named_old(alloc: Global, path: &str) -> Result<String, AllocError>
     ensures { IfOk result (λ aside. aside.bytes.items ≡ path.now ++ codes ".old") }
 {
@@ -35,7 +35,7 @@ fn named_old(alloc: Global, path: &str) -> Result<String, AllocError>
     Ok(aside)
 }
 
-/// The path of a file that is written, beside the one that it takes the place of.
+/// Makes the path of a file that is written, beside the one that it takes the place of.
 fn beside<R: AllocGlobal>(rt: &R, path: &str) -> io::Result<String>
     ensures { IfOk result (λ beside. beside.bytes.items ≡ path.now ++ codes ".new") }
 {
@@ -45,7 +45,7 @@ fn beside<R: AllocGlobal>(rt: &R, path: &str) -> io::Result<String>
     }
 }
 
-/// The path of a file that is put aside.
+/// Makes the path of a file that is put aside.
 fn aside<R: AllocGlobal>(rt: &R, path: &str) -> io::Result<String>
     ensures { IfOk result (λ aside. aside.bytes.items ≡ path.now ++ codes ".old") }
 {
@@ -67,7 +67,7 @@ pub fn number_of(error: &io::Error) -> u32 {
     }
 }
 
-/// Nothing stands at a path any more.
+/// Removes the file at a path, where there is one.
 fn clear<R: Files>(rt: &R, path: &str) -> io::Result<()> {
     match fs::remove_file(rt, path) {
         Ok(()) => Ok(()),
@@ -124,7 +124,7 @@ pub fn keep<R: Files + AllocGlobal>(rt: &R, path: &str, octets: &[u8]) -> io::Re
     sync_folder(rt, path)
 }
 
-/// The octets that the file of a path holds; none where no file is there.
+/// Reads the octets that the file of a path holds. Returns `None` where no file is there.
 ///
 /// # Errors
 ///

@@ -204,7 +204,8 @@ pub fn fill_outboxes(
     Ok(())
 }
 
-/// An outbox for each worker and for the timer, in which nothing waits, with a queue for each of so many sockets.
+/// Makes an outbox for each worker and for the timer, in which nothing waits, with a queue for each of so many
+/// sockets.
 pub fn make_outboxes(
     alloc: Global,
     shards: u16,

@@ -206,7 +206,7 @@ impl<'s> Drop for Logger<'s> {
 }
 
 impl<'s> Logger<'s> {
-    /// The queues of notices, those of lines, and where these are built.
+    /// Returns the queues of notices, those of lines, and the buffer in which lines are built.
     fn into_parts(self) -> (Vec<Consumer<Notice>>, ExchangeQueues<'s>, Vec<u8>) {
         let Self {
             queues,

@@ -1,5 +1,5 @@
 -- The line of an exchange that ended, from the request that waited. Ours.
-use Rattle.std.specs.Prelude.{◌≡◌, ℕ, ◌-◌, ◌||◌, List, Option, Some, None, option_and_then, option_map, slice_get, nat_lt, if◌then◌else◌}
+use Rattle.std.specs.Prelude.{◌≡◌, ℕ, ◌-◌, ◌||◌, List, Option, Some, None, option_and_then, slice_get, nat_lt, if◌then◌else◌}
 use Rattle.std.specs.Option.{option_map_or}
 use Rattle.roam_wire.specs.Reading.{reading}
 use Rattle.roam_conf.specs.Config.{ConfigView, RealmView, ServerView}
@@ -19,7 +19,7 @@ use Rattle.roam_log.specs.declared.exchange.ExchangeEnd.{ExchangeEnd}
 
 -- the endpoint of a realm's link to a home server
 abbrev pub endpoint_in : Link → RealmView → Option Endpoint
-endpoint_in (link.Auth server out) realm = option_map (λ (s : ServerView). s.auth) (slice_get realm.servers server)
+endpoint_in (link.Auth server out) realm = option_and_then (λ (s : ServerView). s.auth) (slice_get realm.servers server)
 endpoint_in (link.Acct server out) realm = option_and_then (λ (s : ServerView). s.acct) (slice_get realm.servers server)
 endpoint_in (link.Coa peer out) realm = None
 

@@ -53,7 +53,7 @@ fn is_of_same_session(a: &Details, b: &Details) -> bool
 }
 
 impl Details {
-    /// Nothing is said.
+    /// Makes details that say nothing.
     pub fn none() -> Details
         ensures { result ≡ spec.no_details }
     {
@@ -85,7 +85,7 @@ fn push_if(line: &mut Vec<u8>, key: &str, value: &Value) -> Result<(), AllocErro
     }
 }
 
-/// The word of an Acct-Status-Type, where it has one (RFC 2866, section 5.1).
+/// Returns the word of an Acct-Status-Type, where it has one (RFC 2866, section 5.1).
 fn status_word(status: u32) -> Option<&'static str>
     ensures { spec.shown_word result ≡ spec.status_word status }
 {

@@ -29,7 +29,7 @@ pub struct DroppedText<'n> {
     pub sessions: u64,
 }
 
-/// The word of a cause.
+/// Returns the word of a cause.
 fn cause_word(cause: DropCause) -> &'static str
     ensures { result.now ≡ spec.drop_word cause }
 {

@@ -13,13 +13,14 @@ use roam_exchange::Waited;
 use roam_pending::{Course, Requester};
 use std::alloc::Allocator;
 
-/// The endpoint of a realm's link to a home server; none where the link is a peer's, or isn't configured.
+/// Returns the endpoint of a realm's link to a home server. Returns `None` where the link is a peer's, or isn't
+/// configured.
 pub fn server_endpoint(config: &Config, realm: u16, link: Link) -> Option<Endpoint>
     ensures { result ≡ spec.server_at (shown config.now).realms realm link }
 {
     let realm = config.realms.get(usize::from(realm))?;
     match link {
-        Link::Auth(server, _) => Some(realm.servers.get(usize::from(server))?.auth),
+        Link::Auth(server, _) => realm.servers.get(usize::from(server))?.auth,
         Link::Acct(server, _) => realm.servers.get(usize::from(server))?.acct,
         Link::Coa(_, _) => None,
     }
@@ -35,7 +36,7 @@ fn tries_of(config: &Config, realm: u16, sends_left: u8) -> u8
     }
 }
 
-/// The peer of an exchange: who asked, or to whom a reverse request was sent.
+/// Returns the peer of an exchange: the one that asked, or to which a Disconnect- or CoA-Request was sent.
 fn peer_of(requester: Requester, link: Link) -> Option<u16>
     ensures { result ≡ spec.peer_of requester link }
 {
@@ -46,7 +47,8 @@ fn peer_of(requester: Requester, link: Link) -> Option<u16>
     }
 }
 
-/// The home server of an exchange: the one to which a peer's request was sent, or that sent a reverse one.
+/// Returns the home server of an exchange: the one to which a peer's request was sent, or that sent a Disconnect- or
+/// CoA-Request.
 fn server_of<A: Allocator>(config: &Config, realm: u16, waited: &Waited<A>) -> Option<Endpoint>
     ensures { result ≡ spec.server_of (shown config.now).realms realm (shown_waited waited.now) }
 {

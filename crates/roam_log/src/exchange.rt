@@ -197,7 +197,7 @@ impl RequestWord {
 }
 
 impl Exchange {
-    /// One that ended so, of which no more is said.
+    /// Makes an exchange that ended so, of which no more is said.
     pub fn unsaid(outcome: ExchangeEnd) -> Exchange
         ensures { result ≡ unsaid outcome }
     {
@@ -230,7 +230,7 @@ impl Exchange {
 }
 
 impl Value {
-    /// There is none.
+    /// Makes the value that isn't there.
     pub fn none() -> Value
         ensures { result ≡ no_value }
     {
@@ -241,7 +241,7 @@ impl Value {
         }
     }
 
-    /// These octets; of more than 253 the first ones.
+    /// Makes a value of these octets; of more than 253 the first ones.
     pub fn new(octets: &[u8]) -> Value
         ensures { octets_if result ≡ Some (take 253 octets.now) }
     {
@@ -270,7 +270,7 @@ impl Value {
         }
     }
 
-    /// The octets, if there is a value.
+    /// Returns the octets, if there is a value.
     pub fn octets(&self) -> Option<&[u8]>
         ensures { shown_value result ≡ octets_if self.now }
     {

@@ -25,7 +25,7 @@ pub(crate) fn push(line: &mut Vec<u8>, octets: &[u8]) -> Result<(), AllocError>
     line.extend_from_slice(octets)
 }
 
-/// A hexadecimal digit, in lower case.
+/// Returns a hexadecimal digit, in lower case.
 pub(crate) fn digit(number: u8) -> u8
     requires { number < 16 }
     ensures { result ≡ digit number }
@@ -110,7 +110,7 @@ pub(crate) fn push_number(line: &mut Vec<u8>, key: &str, number: u64) -> Result<
     push(line, buffer.format(number).as_bytes())
 }
 
-/// The word of an outcome.
+/// Returns the word of an outcome.
 fn outcome_word(outcome: ExchangeEnd) -> &'static str
     ensures { result.now ≡ spec.outcome_word outcome }
 {
@@ -128,7 +128,7 @@ fn outcome_word(outcome: ExchangeEnd) -> &'static str
     }
 }
 
-/// The word of a request.
+/// Returns the word of a request.
 fn asked_word(asked: RequestWord) -> &'static str
     ensures { result.now ≡ spec.asked_word asked }
 {
@@ -141,7 +141,7 @@ fn asked_word(asked: RequestWord) -> &'static str
     }
 }
 
-/// The name of the realm of this index; none where there is none.
+/// Returns the name of the realm of this index, or `None` where there is no such realm.
 fn realm_name(config: &Config, realm: Option<u16>) -> Option<&[u8]>
     ensures { shown_value result ≡ spec.realm_name (shown config.now).realms realm }
 {
@@ -151,7 +151,7 @@ fn realm_name(config: &Config, realm: Option<u16>) -> Option<&[u8]>
     }
 }
 
-/// The name of the peer of this index; none where there is none.
+/// Returns the name of the peer of this index, or `None` where there is no such peer.
 fn peer_name(config: &Config, peer: Option<u16>) -> Option<&[u8]>
     ensures { shown_value result ≡ spec.peer_name (shown config.now).peers peer }
 {
@@ -174,7 +174,7 @@ fn push_who(line: &mut Vec<u8>, config: &Config, exchange: &Exchange) -> Result<
     push_value(line, " peer=", peer_name(config, exchange.peer))
 }
 
-/// The word of a cause.
+/// Returns the word of a cause.
 fn cause_word(cause: RejectCause) -> &'static str
     ensures { result.now ≡ spec.cause_word cause }
 {

@@ -48,7 +48,7 @@ impl Model for FoldedLines {
 }
 
 impl FoldedLines {
-    /// Nothing has ended.
+    /// Makes the lines where nothing has ended.
     pub fn new(alloc: Global) -> Result<FoldedLines, AllocError>
         ensures { IfOk result (λ folded. folded ≡ []) }
     {
@@ -57,7 +57,7 @@ impl FoldedLines {
         })
     }
 
-    /// The place of the line of requests that are like this one.
+    /// Finds the place of the line of requests that are like this one.
     fn place_of(&self, exchange: &Exchange) -> Option<usize>
         ensures found { IfSome result (λ i. (i < length self.now) × IsAlike (line_at self.now i) exchange.now) }
         ensures none { IfNone result (All (λ line. ¬ (IsAlike line exchange.now)) self.now) }

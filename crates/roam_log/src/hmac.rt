@@ -25,7 +25,7 @@ pub struct StationKey {
     block: [u8; BLOCK],
 }
 
-/// The key, and zeros behind it to the 64 octets of a block.
+/// Returns the key, and zeros behind it to the 64 octets of a block.
 fn padded_key(key: &[u8]) -> [u8; 64]
     requires { length key.now ≤ 64 }
     ensures { result ≡ padded_key key.now }
@@ -35,7 +35,7 @@ fn padded_key(key: &[u8]) -> [u8; 64]
     block
 }
 
-/// Each octet XORed with the pad's.
+/// Returns each octet XORed with the pad's.
 fn padded_with(block: [u8; 64], pad: u8) -> [u8; 64]
     ensures { result ≡ padded_with pad block }
 {
@@ -47,7 +47,7 @@ fn padded_with(block: [u8; 64], pad: u8) -> [u8; 64]
 }
 
 impl StationKey {
-    /// These octets, if they are 16 to 64.
+    /// Makes a key of these octets, if they are 16 to 64.
     pub fn new(octets: &[u8]) -> Option<StationKey>
         ensures { IfSome result (λ key. (16 ≤ length octets.now) × (length octets.now ≤ 64)
             × (key.block ≡ padded_key octets.now)) }
@@ -60,7 +60,7 @@ impl StationKey {
         })
     }
 
-    /// A hasher that has taken the key, and takes the message.
+    /// Returns a hasher that has taken the key, and takes the message.
     fn inner_hasher(&self) -> Sha256
         ensures { Holds256 result (padded_with 0x36 self.now.block) }
     {
@@ -69,7 +69,7 @@ impl StationKey {
         hasher
     }
 
-    /// The digest of the key and the inner digest.
+    /// Returns the digest of the key and the inner digest.
     fn outer_digest(&self, inner: [u8; 32]) -> [u8; 32]
         ensures { result ≡ sha256 (padded_with 0x5c self.now.block ++ inner) }
     {
@@ -79,7 +79,7 @@ impl StationKey {
         hasher.finalize()
     }
 
-    /// HMAC-SHA-256 of a message (RFC 2104, section 2).
+    /// Computes HMAC-SHA-256 of a message (RFC 2104, section 2).
     #[tactic(auto, unfolding(crate::specs::Hashes::hmac_sha256))]
     pub(crate) fn hmac(&self, message: &[u8]) -> [u8; 32]
         ensures { result ≡ hmac_sha256 self.now.block message.now }

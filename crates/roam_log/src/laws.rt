@@ -3,7 +3,7 @@
 ghost use Rattle.roam_log.specs.Printable.{ValuesArePrintable};
 ghost use Rattle.roam_log.specs.Quoted.{ReadsBack};
 
-/// Whatever octets a value has, it is read back as itself, and behind it what was written behind it.
+/// States that a value is read back as itself, whatever octets it has, and behind it what was written behind it.
 pub fn values_read_back()
     ensures { ReadsBack }
 {}

@@ -30,7 +30,7 @@ pub enum OriginKind {
     Tick(u16),
 }
 
-/// The realm that a place belongs to, by its index.
+/// Returns the realm that a place belongs to, by its index.
 fn realm_at(place: Place) -> Option<u16>
     ensures { result ≡ spec.realm_at place }
 {
@@ -55,7 +55,7 @@ impl Origin {
         }
     }
 
-    /// The index of the realm that its place belongs to, where it belongs to one.
+    /// Returns the index of the realm that its place belongs to, where it belongs to one.
     pub fn realm(self) -> Option<u16>
         ensures { result ≡ spec.realm_of self }
     {

@@ -32,7 +32,7 @@ impl Model for Repeats {
 }
 
 impl Repeats {
-    /// Nothing was refused.
+    /// Makes the rows where nothing was refused.
     pub fn new(alloc: Global) -> Result<Repeats, AllocError>
         ensures { IfOk result (λ repeats. repeats ≡ replicate 29 []) }
     {
@@ -55,7 +55,7 @@ impl Repeats {
         self.rows[row].note(refusal, origin);
     }
 
-    /// The first row in which something was refused.
+    /// Finds the first row in which something was refused.
     fn first_row(&self) -> Option<usize>
         ensures first { IfSome result (λ i. IsFirstRow self.now i) }
         ensures none { IfNone result (AreEmptyBelow self.now (length self.now)) }

@@ -32,7 +32,7 @@ impl Model for Row {
 }
 
 impl Row {
-    /// Nothing was refused.
+    /// Makes the row where nothing was refused.
     pub fn new(alloc: Global) -> Result<Row, AllocError>
         ensures { IfOk result (λ row. row ≡ []) }
     {
@@ -48,7 +48,7 @@ impl Row {
         self.tallies.is_empty()
     }
 
-    /// The place of the tally of a kind.
+    /// Finds the place of the tally of a kind.
     fn place_of(&self, kind: OriginKind) -> Option<usize>
         ensures found { IfSome result (λ i. (i < length self.now) × IsOfKind kind (tally_at self.now i)) }
         ensures none { IfNone result (All (λ tally. ¬ (IsOfKind kind tally)) self.now) }

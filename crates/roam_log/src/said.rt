@@ -43,7 +43,7 @@ pub fn number_in(value: &[u8]) -> Option<u32>
     Some(u32::from_be_bytes([*a, *b, *c, *d]))
 }
 
-/// The number of the first Acct-Status-Type, where it is one.
+/// Returns the number of the first Acct-Status-Type, where it is one.
 fn status_in(request: &View<'_>) -> Option<u32>
     ensures { result ≡ option_and_then spec.number_in (first_value ACCT_STATUS_TYPE request.now.attributes) }
 {

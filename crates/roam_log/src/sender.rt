@@ -17,7 +17,7 @@ pub enum Sender<'n> {
     Unknown,
 }
 
-/// The peer of this index.
+/// Returns the peer of this index as a sender, and an unknown sender where there is no such peer.
 fn peer_at(config: &Config, peer: Option<u16>) -> Sender<'_>
     ensures { shown_sender result ≡ peer_at (shown config.now).peers peer }
 {

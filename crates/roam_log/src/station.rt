@@ -24,7 +24,7 @@ fn push_bare(octets: &mut Vec<u8>, octet: u8) -> Result<(), AllocError>
     }
 }
 
-/// A station's octets in small letters, but for those that part a MAC address.
+/// Copies a station's octets in small letters, without those that part a MAC address.
 fn bare(alloc: Global, station: &[u8]) -> Result<Vec<u8>, AllocError>
     ensures { IfOk result (λ octets. octets.items ≡ bare station.now) }
 {
@@ -55,7 +55,7 @@ fn is_mac(octets: &[u8]) -> bool
     octets.len() == DIGITS && are_digits(octets)
 }
 
-/// The first octets of a digest.
+/// Returns the first octets of a digest.
 fn kept(digest: [u8; 32]) -> [u8; 8]
     ensures { result ≡ take 8 digest }
 {
@@ -64,7 +64,7 @@ fn kept(digest: [u8; 32]) -> [u8; 8]
     kept
 }
 
-/// The hash of a station: of a MAC address that of its digits.
+/// Computes the hash of a station: of a MAC address that of its digits.
 ///
 /// # Errors
 ///

@@ -54,7 +54,7 @@ pub struct RefusedText<'n> {
     pub asked: &'n str,
 }
 
-/// The name of the realm of this index; empty where there is none.
+/// Returns the name of the realm of this index, which is empty where there is no such realm.
 pub(crate) fn name_of(config: &Config, realm: Option<u16>) -> &str
     ensures { result.now ≡ name_of (shown config.now).realms realm }
 {
@@ -79,7 +79,7 @@ fn asked_in(origin: &Option<Origin>) -> &str
 }
 
 impl<'n> RefusedText<'n> {
-    /// The line of these refusals, where this is the configuration.
+    /// Makes the line of these refusals, where this is the configuration.
     pub fn new(config: &'n Config, tally: &'n RefusalCount) -> RefusedText<'n>
         ensures tally { result.tally ≡ tally.now }
         ensures realm { result.realm.now ≡ realm_name (shown config.now).realms tally.now }
@@ -194,7 +194,7 @@ impl Display for CountText {
     }
 }
 
-/// The name of a refusal.
+/// Returns the name of a refusal.
 fn refusal_name(refusal: Refusal) -> &'static str
     ensures { result.now ≡ lines.refusal_name refusal }
 {

@@ -35,7 +35,7 @@ pub struct TurnedAway {
     pub fault: ReplyFault,
 }
 
-/// The replies that are refused by this, where it shows that who sent them is there and has the right secret.
+/// Returns the replies that are refused by this, where it shows that their sender is there and has the right secret.
 pub fn turned_away(refusal: Refusal, origin: Origin) -> Option<TurnedAway>
     ensures { result ≡ spec.turned_away refusal origin }
 {
@@ -106,7 +106,7 @@ pub struct TurnedAwayText<'n> {
 }
 
 impl<'n> TurnedAwayText<'n> {
-    /// The line of these replies, where this is the configuration.
+    /// Makes the line of these replies, where this is the configuration.
     pub fn new(config: &'n Config, replies: TurnedAway) -> TurnedAwayText<'n>
         ensures from { result.from ≡ replies.from }
         ensures realm { result.realm.now ≡ name_of (shown config.now).realms (Some replies.realm) }

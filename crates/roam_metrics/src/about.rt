@@ -30,7 +30,7 @@ pub struct About {
 }
 
 impl About {
-    /// A moment, in milliseconds since the start, as seconds since 1970.
+    /// Returns a moment, in milliseconds since the start, as seconds since 1970.
     pub fn second_at(&self, moment: u64) -> Option<u64>
         ensures { result ≡ spec.second_at self.now.began moment }
     {

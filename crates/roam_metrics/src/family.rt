@@ -28,7 +28,7 @@ pub struct Family {
 }
 
 impl Family {
-    /// Its name.
+    /// Returns the name of the family.
     pub(crate) fn name(&self, scope: Scope) -> &'static str {
         match scope {
             Scope::Realm => self.realm,

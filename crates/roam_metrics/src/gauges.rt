@@ -49,7 +49,7 @@ pub(crate) const OF_GAUGES: [OfGauges; 6] = [
 ];
 
 impl OfGauges {
-    /// The name of the metric.
+    /// Returns the name of the metric.
     pub(crate) fn name(self) -> &'static str {
         match self {
             OfGauges::Waiting => "roam_realm_waiting_requests",
@@ -105,7 +105,7 @@ impl OfGauges {
         }
     }
 
-    /// The value that a sample has: of a rest only whether there is one.
+    /// Returns the value that a sample has: of `Rests` only whether there is one.
     pub(crate) fn sample(self, value: u64) -> u64 {
         match self {
             OfGauges::Rests => value.min(1),

@@ -2,7 +2,8 @@
 
 ghost use Rattle.roam_metrics.specs.Labels.{ReadsBack};
 
-/// Whatever octets a label's value has, it is read back as itself, and behind it what was written behind it.
+/// States that a label's value is read back as itself, whatever octets it has, and behind it what was written behind
+/// it.
 pub fn label_values_read_back()
     ensures { ReadsBack }
 {}

@@ -19,6 +19,7 @@
 
 mod about;
 mod about_page;
+mod addresses;
 mod counts;
 mod family;
 mod gauges;

@@ -18,8 +18,8 @@ pub(crate) struct Named<'c> {
     server: Option<String>,
 }
 
-/// The subjects of a configuration that are here, by their indexes: realms, each with its home servers behind it, and
-/// peers.
+/// Lists the subjects of a configuration that aren't gone, by their indexes: realms, each with its home servers
+/// behind it, and peers.
 pub(crate) fn all_named(alloc: Global, config: &Config) -> Result<Vec<Named<'_>>, AllocError> {
     let mut all = Vec::new(alloc);
     for (number, realm) in config.realms.iter().enumerate() {
@@ -36,11 +36,14 @@ pub(crate) fn all_named(alloc: Global, config: &Config) -> Result<Vec<Named<'_>>
         })?;
         for (place, server) in realm.servers.iter().enumerate() {
             let place = u8::try_from(place).unwrap_or(u8::MAX);
+            let Some(endpoint) = server.endpoint() else {
+                continue;
+            };
             all.push(Named {
                 scope: Scope::Server,
                 subject: Subject::Server(number, place),
                 name,
-                server: Some(format!(in alloc; "{}", server.auth)?),
+                server: Some(format!(in alloc; "{endpoint}")?),
             })?;
         }
     }
@@ -58,7 +61,7 @@ pub(crate) fn all_named(alloc: Global, config: &Config) -> Result<Vec<Named<'_>>
     Ok(all)
 }
 
-/// The labels of a subject.
+/// Returns the labels of a subject.
 pub(crate) fn labels_of<'n>(named: &'n Named<'_>) -> (Label<'n>, Option<Label<'n>>) {
     let whose = Label {
         name: if named.scope == Scope::Peer {
@@ -94,7 +97,7 @@ fn push_labelled(
     }
 }
 
-/// The same, where it isn't 0.
+/// Adds the sample of a count, with the names of its subject and a label more, where the count isn't 0.
 pub(crate) fn push_count(
     page: &mut Vec<u8>,
     name: &str,

@@ -238,8 +238,8 @@ fn push_history<C: Counts>(page: &mut Vec<u8>, counts: &C) -> Result<(), AllocEr
     push_sample(page, name, &[], octets)
 }
 
-/// A page of all counts of a server with this configuration. A realm's, home server's or peer's count that is 0 has no
-/// line.
+/// Makes a page of all counts of a server with this configuration. A realm's, home server's or peer's count that is 0
+/// has no line.
 pub fn page<C: Counts>(
     alloc: Global,
     config: &Config,

@@ -84,7 +84,7 @@ fn write_sample(
     push(page, b"\n")
 }
 
-/// A decimal digit.
+/// Returns a decimal digit.
 fn digit(number: u64) -> u8
     requires { number < 10 }
     ensures { result ≡ 48 + number }
@@ -126,7 +126,7 @@ pub enum MetricKind {
     Histogram,
 }
 
-/// The word of a kind, behind a blank, and the end of its line.
+/// Returns the word of a kind, behind a blank, and the end of its line.
 fn kind_word(kind: MetricKind) -> &'static str
     ensures { result.now ≡ spec.kind_word kind }
 {

@@ -64,7 +64,7 @@ impl Seen {
 }
 
 impl Standing {
-    /// It as a word of JSON.
+    /// Returns the standing as a word of JSON.
     pub fn word(self) -> &'static str {
         match self {
             Standing::NeverAnswered(_) => "never_answered",

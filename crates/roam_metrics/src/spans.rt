@@ -23,7 +23,7 @@ pub struct Span {
     pub few: u64,
 }
 
-/// So many seconds in the largest units of which there is one, without what is left of the smaller one.
+/// Returns so many seconds in the largest units of which there is one, without what is left of the smaller one.
 pub fn span_of(seconds: u64) -> Span
     ensures at_most { spec.seconds_of result ≤ seconds }
     ensures no_less { seconds < spec.seconds_of result + spec.seconds_of_smaller result.unit }

@@ -1,5 +1,6 @@
 //! The state of a server, as JSON (RFC 8259).
 
+use crate::addresses::AddressesJson;
 use crate::servers::Standing;
 use crate::totals::{Service, Totals};
 use crate::{About, Counts, Gauge, Reloads};
@@ -99,12 +100,14 @@ fn write_servers<C: Counts>(
         let place = u8::try_from(at).unwrap_or(u8::MAX);
         let totals = TotalsText(Totals::of(counts, Subject::Server(number, place)));
         let comma = comma(at);
-        let endpoint = server.auth;
-        write!(
-            out,
-            "{comma}{{\"endpoint\":\"{endpoint}\",{totals},\"auth\":"
-        )?;
-        write_service(out, counts, (number, place), Service::Auth, server.auth)?;
+        let Some(endpoint) = server.endpoint() else {
+            continue;
+        };
+        write!(out, "{comma}{{\"endpoint\":\"{endpoint}\",{totals}")?;
+        if let Some(auth) = server.auth {
+            out.push_str(",\"auth\":")?;
+            write_service(out, counts, (number, place), Service::Auth, auth)?;
+        }
         if let Some(acct) = server.acct {
             out.push_str(",\"acct\":")?;
             write_service(out, counts, (number, place), Service::Acct, acct)?;
@@ -158,11 +161,8 @@ fn write_peers<C: Counts>(out: &mut String, counts: &C, config: &Config) -> Resu
         let comma = comma(before);
         before = 1;
         let name = peer.name.as_str();
-        let ip = peer.ip;
-        write!(
-            out,
-            "{comma}{{\"name\":\"{name}\",\"ip\":\"{ip}\",{totals}}}"
-        )?;
+        let ip = AddressesJson(peer.ips.as_slice());
+        write!(out, "{comma}{{\"name\":\"{name}\",\"ip\":{ip},{totals}}}")?;
     }
     Ok(())
 }

@@ -1,5 +1,6 @@
 //! The state of a server, as tables that a person reads.
 
+use crate::addresses::AddressesCell;
 use crate::spans::span_of;
 use crate::tables::{Cell, Row, push_table};
 use crate::totals::{Service, Totals};
@@ -62,7 +63,7 @@ struct Filling {
 }
 
 impl Filling {
-    /// A table with these heads.
+    /// Makes a table with these heads.
     fn new(alloc: Global, heads: &[&str]) -> Result<Filling, AllocError> {
         let mut filling = Filling {
             alloc,
@@ -182,9 +183,10 @@ fn write_servers<C: Counts>(
         let number = u16::try_from(at).unwrap_or(u16::MAX);
         for (at, server) in realm.servers.iter().enumerate() {
             let of = (number, u8::try_from(at).unwrap_or(u8::MAX));
-            let auth = server.auth;
-            table.push(format_args!("auth {auth}"))?;
-            push_service(&mut table, counts, of, realm, Service::Auth, auth)?;
+            if let Some(auth) = server.auth {
+                table.push(format_args!("auth {auth}"))?;
+                push_service(&mut table, counts, of, realm, Service::Auth, auth)?;
+            }
             if let Some(acct) = server.acct {
                 table.push(format_args!("acct {acct}"))?;
                 push_service(&mut table, counts, of, realm, Service::Acct, acct)?;
@@ -209,7 +211,7 @@ fn write_peers<C: Counts>(
         let number = u16::try_from(at).unwrap_or(u16::MAX);
         let totals = Totals::of_peer(counts, number);
         table.push(peer.name.as_str())?;
-        table.push(peer.ip)?;
+        table.push(AddressesCell(peer.ips.as_slice()))?;
         table.push_numbers(&[
             totals.requests,
             totals.forwarded,

@@ -33,7 +33,7 @@ pub struct Row {
 }
 
 impl Cell {
-    /// A text that isn't placed yet.
+    /// Makes a cell of a text that isn't placed yet.
     pub(crate) fn new(text: String) -> Cell {
         let column = Column {
             side: CellSide::Left,

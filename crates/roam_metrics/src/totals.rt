@@ -70,7 +70,7 @@ impl Totals {
         totals
     }
 
-    /// Those of a subject.
+    /// Returns the totals of a subject.
     pub fn of<C: Counts>(counts: &C, subject: Subject) -> Totals {
         Totals {
             requests: sum_of(counts, subject, &CAME),
@@ -99,7 +99,7 @@ pub enum Service {
 }
 
 impl Service {
-    /// The requests that go there.
+    /// Returns the kind of the requests that go there.
     fn request(self) -> RequestKind {
         match self {
             Service::Auth => RequestKind::Access,
@@ -107,7 +107,7 @@ impl Service {
         }
     }
 
-    /// The replies that come from there.
+    /// Returns the kinds of the replies that come from there.
     fn replies(self) -> &'static [ReplyKind] {
         match self {
             Service::Auth => &[
@@ -163,8 +163,8 @@ impl Service {
             .wrapping_add(counts.event(subject, CountedEvent::TakenOver(kind)))
     }
 
-    /// Of the packets that were sent there: new requests, those that were sent again, and those that another server
-    /// left; of the replies from there: all, and those that weren't taken.
+    /// Returns counts of the packets that were sent there: new requests, those that were sent again, and those that
+    /// another server left; and of the replies from there: all, and those that weren't taken.
     pub fn totals<C: Counts>(self, counts: &C, realm: u16, server: u8) -> [u64; 5] {
         let subject = Subject::Server(realm, server);
         let kind = self.request();

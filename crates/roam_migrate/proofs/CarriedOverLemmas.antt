@@ -5,6 +5,7 @@ use Rattle.std.proofs.lemmas.List.{length-map}
 use Rattle.roam_ids.specs.LaneState.{LaneState}
 use Rattle.roam_pending.specs.EntryList.{IsInOrder}
 use Rattle.roam_pending.specs.PlainEntry.{PlainEntry}
+use Rattle.roam_reload.specs.Kept.{KeepsSources}
 use Rattle.roam_sessions.specs.ShownSessions.{Ledger}
 use Rattle.roam_realm.specs.RealmConfig.{RealmConfig, link_count}
 use Rattle.roam_realm.specs.Sound.{AreOwnLanes, IsEntry, IsSound, LanesTell, cursors_of, marks_of, state_of}
@@ -94,12 +95,12 @@ module _ {A : Type 0} (old new : RealmConfig) (es : List PlainEntry) (was mid mo
 
 -- where nothing of it is touched it stands for the same, with a cursor for each further link
 pub untouched_state : {A : Type 0} (old new : RealmConfig) (es : List PlainEntry) (was then' : RealmNumbers A)
-    → Carries old new → length was.lanes.items ≡ link_count old
+    → Carries old new → KeepsSources old.peers new.peers → length was.lanes.items ≡ link_count old
     → AreMoreLanes new (link_count new) was.lanes.items then'.lanes.items → then'.ticket ≡ was.ticket
     → then'.stream_position ≡ was.stream_position → then'.rests.items ≡ was.rests.items
     → then'.sessions ≡ was.sessions
     → state_of es then' ≡ carried old new (state_of es was)
-untouched_state old new es was then' k count more ticket place rests sessions =
+untouched_state old new es was then' k sources count more ticket place rests sessions =
     let s = state_of es was in
     let many : length (cursors_of was.lanes.items) ≡ link_count old =
     length-map was.lanes.items (λ (l : LaneState). l.cursor) ∙ count in
@@ -115,7 +116,7 @@ untouched_state old new es was then' k count more ticket place rests sessions =
       sessions = (sessions i).sessions;
       rests = rests i;
     } in
-    same ∙ sym (nothing_goes old new k s many)
+    same ∙ sym (nothing_goes old new k sources s many)
 
 -- numbers with more room stand for the same, and keep the same
 pub same_state : {A : Type 0} (es : List PlainEntry) (was now : RealmNumbers A) → now.lanes.items ≡ was.lanes.items

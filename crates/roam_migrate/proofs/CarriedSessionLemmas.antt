@@ -8,7 +8,6 @@ use Rattle.roam_conf.specs.Config.{PeerView}
 use Rattle.roam_pending.specs.ListLaws.{IsIn}
 use Rattle.roam_pending.proofs.TestLemmas.{differs, same}
 use Rattle.roam_reload.specs.Kept.{keeps_sessions, of_peer, same_sessions}
-use Rattle.roam_reload.proofs.KeptLemmas.{sessions_stay}
 use Rattle.roam_sessions.specs.Sessions.{Session, without_peer}
 use Rattle.roam_realm.specs.RealmConfig.{RealmConfig}
 use Rattle.roam_migrate.specs.Carrying.{AreChanged}
@@ -147,8 +146,12 @@ any_in n (x ∷ xs) held =
       ]
     ]
 
+stays_itself : (gone : Bool) → (gone || not gone) ≡ true
+stays_itself true = refl
+stays_itself false = refl
+
 sessions_itself : (p : PeerView) → keeps_sessions p p ≡ true
-sessions_itself p = sessions_stay (p ∷ []) (p ∷ []) (record { more = []; same = refl }) 0
+sessions_itself p = stays_itself p.gone
 
 pub all_closed : (old new : List PeerView) (changed : List ℕ) (i : ℕ) (first cur : List Session)
     → AreChanged old new changed → length changed ≤ i → cur ≡ filter (stays_so_far old new (take i changed)) first

@@ -1,22 +1,19 @@
 -- Which peers' tables are other ones, looked for one after the other.
-use Rattle.std.proofs.Common.{◌≡◌, ◌⊎◌, ℕ, suc, ◌+◌, ◌<◌, ◌≤◌, Bool, true, false, List, [], ◌∷◌, ◌++◌, Option, Some, None, option_map, refl, sym, ap, subst, ◌∙◌, arith, eqb, inl, inr, length, map, drop, get_or, slice_get, unwrap_or}
-use Rattle.std.proofs.lemmas.List.{length-map}
+use Rattle.std.proofs.Common.{◌≡◌, ◌⊎◌, ℕ, ◌+◌, ◌<◌, ◌≤◌, Bool, true, false, List, [], ◌∷◌, ◌++◌, refl, sym, subst, arith, eqb, inl, inr, length}
 use Rattle.std.specs.List.{AllByRecursion}
 use Rattle.std.proofs.lemmas.Bool.Decides.{nat_tests}
-use Rattle.std.proofs.lemmas.Option.{slice_get-get_or, slice_get-map}
 use Rattle.roam_conf.specs.Config.{PeerView}
-use Rattle.roam_conf.specs.Parts.{shown_peer}
-use Rattle.roam_conf.specs.declared.peer.Peer.{Peer}
 use Rattle.roam_pending.specs.ListLaws.{IsIn}
 use Rattle.roam_pending.proofs.TestLemmas.{all-append, all-weaker}
-use Rattle.roam_reload.specs.Reload.{KeepsPeers, peer_part}
+use Rattle.roam_reload.specs.Reload.{IsKeptAt, KeepsPeers}
+use Rattle.roam_reload.proofs.PeerLemmas.{all_kept}
 use Rattle.roam_migrate.specs.Carrying.{AreChanged, AreRising, Unless, noted}
 
 -- what holds of the first so many peers
 pub record AreChangedBelow (old new : List PeerView) (n : ℕ) (changed : List ℕ) : Type 0 where
   pub told :
       (peer : ℕ) → peer < n
-      → IsIn peer changed ⊎ (slice_get (map peer_part new) peer ≡ slice_get (map peer_part old) peer)
+      → IsIn peer changed ⊎ IsKeptAt old new peer
   pub rising : AreRising changed
   pub below : AllByRecursion (λ m. m < n) changed
 
@@ -49,11 +46,11 @@ one-changed : (old new : List PeerView) (n : ℕ) (changed : List ℕ) → AreCh
 one-changed old new n changed h = record {
   told = λ peer less. elim (last-or-less peer n less)
       as (λ _. IsIn peer (changed ++ n ∷ [])
-      ⊎ (slice_get (map peer_part new) peer ≡ slice_get (map peer_part old) peer)) [
+      ⊎ IsKeptAt old new peer) [
         | inl is ↦ inl (subst (λ (k : ℕ). IsIn k (changed ++ n ∷ [])) (sym is) (in-last n changed))
         | inr before ↦ elim (h.told peer before)
             as (λ _. IsIn peer (changed ++ n ∷ [])
-            ⊎ (slice_get (map peer_part new) peer ≡ slice_get (map peer_part old) peer)) [
+            ⊎ IsKeptAt old new peer) [
               | inl at ↦ inl (in-front peer changed (n ∷ []) at)
               | inr same ↦ inr same
             ]
@@ -64,14 +61,13 @@ one-changed old new n changed h = record {
 
 -- or it is the one that it was
 one-stays : (old new : List PeerView) (n : ℕ) (changed : List ℕ)
-    → slice_get (map peer_part new) n ≡ slice_get (map peer_part old) n → AreChangedBelow old new n changed
+    → IsKeptAt old new n → AreChangedBelow old new n changed
     → AreChangedBelow old new (n + 1) changed
 one-stays old new n changed here h = record {
   told = λ peer less. elim (last-or-less peer n less)
       as (λ _. IsIn peer changed
-      ⊎ (slice_get (map peer_part new) peer ≡ slice_get (map peer_part old) peer)) [
-        | inl is ↦ inr (subst (λ (k : ℕ). slice_get (map peer_part new) k ≡ slice_get (map peer_part old) k)
-            (sym is) here)
+      ⊎ IsKeptAt old new peer) [
+        | inl is ↦ inr (subst (IsKeptAt old new) (sym is) here)
         | inr before ↦ h.told peer before
       ];
   rising = h.rising;
@@ -80,29 +76,16 @@ one-stays old new n changed here h = record {
 
 -- one more was looked at
 by-test : (b : Bool) (old new : List PeerView) (n : ℕ) (changed : List ℕ)
-    → Unless b (slice_get (map peer_part new) n ≡ slice_get (map peer_part old) n)
+    → Unless b (IsKeptAt old new n)
     → AreChangedBelow old new n changed → AreChangedBelow old new (n + 1) (noted changed n b)
 by-test true old new n changed stays h = one-changed old new n changed h
 by-test false old new n changed stays h = one-stays old new n changed stays h
 
 pub one-noted : (old new : List PeerView) (n : ℕ) (changed after : List ℕ) (b : Bool)
-    → Unless b (slice_get (map peer_part new) n ≡ slice_get (map peer_part old) n)
+    → Unless b (IsKeptAt old new n)
     → after ≡ noted changed n b → AreChangedBelow old new n changed → AreChangedBelow old new (n + 1) after
 one-noted old new n changed after b stays is h =
     subst (AreChangedBelow old new (n + 1)) (sym is) (by-test b old new n changed stays h)
-
--- a peer of both lists whose table is the same
-pub same-place : (old new : List Peer) (i : ℕ) (a b : Peer) → i < length old → i < length new
-    → a ≡ get_or old i a → b ≡ get_or new i b → peer_part (shown_peer b) ≡ peer_part (shown_peer a)
-    → slice_get (map peer_part (map shown_peer new)) i ≡ slice_get (map peer_part (map shown_peer old)) i
-same-place old new i a b was is at there same =
-    let part = λ (o : Option Peer). option_map peer_part (option_map shown_peer o) in
-    let first : slice_get old i ≡ Some a = slice_get-get_or old i a was ∙ ap (λ (p : Peer). Some p) (sym at) in
-    let second : slice_get new i ≡ Some b = slice_get-get_or new i b is ∙ ap (λ (p : Peer). Some p) (sym there) in
-    slice_get-map peer_part (map shown_peer new) i ∙ ap (option_map peer_part) (slice_get-map shown_peer new i)
-    ∙ ap part second ∙ ap (λ (p : PeerView). Some p) same ∙ sym (ap part first)
-    ∙ sym (ap (option_map peer_part) (slice_get-map shown_peer old i))
-    ∙ sym (slice_get-map peer_part (map shown_peer old) i)
 
 pub all-changed : (old new : List PeerView) (n : ℕ) (changed : List ℕ) → length old ≤ n
     → AreChangedBelow old new n changed → AreChanged old new changed
@@ -111,32 +94,14 @@ all-changed old new n changed all h =
 
 -- ---- where none is another one
 
--- a list begins as another, where all of that stands in it
-begins : (xs ys : List PeerView) → ((i : ℕ) → i < length xs → slice_get ys i ≡ slice_get xs i) →
-    ys ≡ xs ++ drop (length xs) ys
-begins [] ys each = refl
-begins (x ∷ xs) [] each = absurd (let k : None ≡ Some x = each 0 (omega arith) in cc)
-begins (x ∷ xs) (y ∷ ys) each =
-    let first : y ≡ x = ap (λ (o : Option PeerView). unwrap_or o y) (each 0 (omega arith)) in
-    let rest = begins xs ys (λ i less. each (suc i) (omega (arith, less))) in
-    ap (λ (p : PeerView). p ∷ ys) first ∙ ap (λ (l : List PeerView). x ∷ l) rest
-
 pub none-noted : (changed : List ℕ) → eqb (length changed) 0 ≡ true → changed ≡ []
 none-noted [] is = refl
 none-noted (n ∷ ns) is =
     let zero_long : length (n ∷ ns) ≡ 0 = grind (arith, nat_tests, is) in absurd (omega (arith, zero_long))
 
-within : (old : List PeerView) (i : ℕ) → i < length (map peer_part old) → i < length old
-within old i less = omega (arith, less, length-map old peer_part)
-
 pub keeps-peers : (old new : List PeerView) → AreChanged old new [] → KeepsPeers old new
 keeps-peers old new h =
-    let was = map peer_part old in
-    let is = map peer_part new in
-    record {
-      more = drop (length was) is;
-      same = begins was is (λ i less. elim (h.told i (within old i less)) as (λ _. slice_get is i ≡ slice_get was i) [
-        | inl at ↦ absurd at
-        | inr same ↦ same
-      ]);
-    }
+    all_kept old new (λ peer less. elim (h.told peer less) as (λ _. IsKeptAt old new peer) [
+      | inl at ↦ absurd at
+      | inr same ↦ same
+    ])

@@ -9,7 +9,7 @@ use Rattle.roam_pending.specs.declared.key.Requester.{Requester}
 use Rattle.roam_pending.specs.declared.key.Requester.TheVariants as requester
 use Rattle.roam_pending.specs.PlainEntry.{PlainEntry, PlainRequest, PlainStanding, waiting, done}
 use Rattle.roam_pending.specs.Realms.{with_ends, with_home}
-use Rattle.roam_reload.specs.Kept.{home_then, keeps_requests, of_peer}
+use Rattle.roam_reload.specs.Kept.{home_then, keeps_request}
 use Rattle.roam_realm.specs.RealmConfig.{RealmConfig}
 use Rattle.roam_realm.specs.Shapings.{shaping_from}
 use Rattle.roam_realm.specs.Sound.{IsOfPeer}
@@ -32,7 +32,7 @@ fits_still true false c h = refl
 fits_still false b c h = refl
 
 pub peer_on : (old new : RealmConfig) (q : PlainRequest) (p : ℕ) → q.requester ≡ requester.Peer p
-    → of_peer keeps_requests old.peers new.peers p ≡ true → fits new p q ≡ true
+    → keeps_request old.peers new.peers p q.key.from.ip ≡ true → fits new p q ≡ true
     → request_then old new q ≡ Some (request_from q (with_home None q.requester))
 peer_on old new q p is keeps fit =
     let still : outgrows old new q (requester.Peer p) ≡ false =
@@ -44,7 +44,7 @@ either_way true o = refl
 either_way false o = refl
 
 pub peer_off : (old new : RealmConfig) (q : PlainRequest) (p : ℕ) → q.requester ≡ requester.Peer p
-    → of_peer keeps_requests old.peers new.peers p ≡ false → request_then old new q ≡ None
+    → keeps_request old.peers new.peers p q.key.from.ip ≡ false → request_then old new q ≡ None
 peer_off old new q p is keeps =
     request_by old new q (requester.Peer p) is
     ∙ rw keeps (either_way (outgrows old new q (requester.Peer p)) None)

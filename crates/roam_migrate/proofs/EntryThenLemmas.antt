@@ -20,7 +20,8 @@ use Rattle.roam_pending.specs.declared.key.Requester.{Requester}
 use Rattle.roam_pending.specs.declared.key.Requester.TheVariants as requester
 use Rattle.roam_pending.specs.DueOrder.{due_at}
 use Rattle.roam_pending.specs.PlainEntry.{PlainEntry, PlainRequest, PlainStanding, deadline_of, waiting, done}
-use Rattle.roam_reload.specs.Kept.{Source, both_or_none, client_source, closes_reverse, home_then, keeps_requests, of_peer, same_source, server_source, source}
+use Rattle.roam_reload.specs.Kept.{Source, both_or_none, client_source, closes_reverse, home_then, keeps_request, keeps_secret, of_peer, same_source, server_source, source}
+use Rattle.roam_reload.proofs.KeptLemmas.{secret_kept}
 use Rattle.roam_realm.specs.RealmConfig.{RealmConfig, IsRequester}
 use Rattle.roam_realm.specs.Shapings.{shaping_from}
 use Rattle.roam_realm.specs.Sound.{CanGo, IsEntry, IsOfPeer, IsRequest, IsWaiting, StandsWell}
@@ -58,7 +59,6 @@ entry_parts old new before after is =
     refl refl is
 
 -- ---- its deadline
-
 waiting_until : (o : Option Link) (id : ℕ) (forwarded : List ℕ) (sends_left deadline signs : ℕ) (s : PlainStanding)
     → option_map (λ m. waiting m id forwarded sends_left deadline signs) o ≡ Some s → deadline_of s ≡ deadline
 waiting_until None id forwarded sends_left deadline signs s is = absurd (cc is)
@@ -100,7 +100,7 @@ is_sender : (old new : RealmConfig) (q p : PlainRequest) → request_then old ne
 is_sender old new q p is =
     sender_by old new q p (outgrows old new q q.requester) (requester_then old new q.key q.requester) refl refl is
 
-pub peer_below : (old new : List PeerView) (p : ℕ) → of_peer keeps_requests old new p ≡ true → p < length old
+pub peer_below : (old new : List PeerView) (p : ℕ) → of_peer keeps_secret old new p ≡ true → p < length old
     → p < length new
 peer_below [] new p h below = omega (arith, below)
 peer_below (a ∷ old) [] zero h below = absurd (cc h)
@@ -254,13 +254,13 @@ pub record GoesOn (c : RealmConfig) (q : PlainRequest) (r : Requester) : Type 0 
   pub can_go : CanGo c r (packet_of q.octets)
 
 peer_by : (old new : RealmConfig) (i : ℕ) (q : PlainRequest) (r : Requester) (b : Bool)
-    → of_peer keeps_requests old.peers new.peers i ≡ b → (if b then Some (requester.Peer i) else None) ≡ Some r
-    → i < length old.peers → IsOfPeer old i (packet_of q.octets) → outgrows old new q (requester.Peer i) ≡ false
-    → GoesOn new q r
+    → keeps_request old.peers new.peers i q.key.from.ip ≡ b → (if b then Some (requester.Peer i) else None) ≡ Some r →
+    i < length old.peers → IsOfPeer old i (packet_of q.octets) → outgrows old new q (requester.Peer i) ≡ false →
+    GoesOn new q r
 peer_by old new i q r false keeps is below h out = absurd (cc is)
 peer_by old new i q r true keeps is below h out =
     subst (GoesOn new q) (same_Some (requester.Peer i) r is) (record {
-      sender = peer_below old.peers new.peers i keeps below;
+      sender = peer_below old.peers new.peers i (secret_kept old.peers new.peers i q.key.from.ip keeps) below;
       can_go = peer_goes old new i q below h out;
     })
 
@@ -277,7 +277,7 @@ home_by old new home q r (Some i) at is below h =
 goes_on : (old new : RealmConfig) (q : PlainRequest) (s r : Requester) → requester_then old new q.key s ≡ Some r
     → outgrows old new q s ≡ false → IsRequester old s → CanGo old s (packet_of q.octets) → GoesOn new q r
 goes_on old new q (requester.Peer i) r is out sender can =
-    peer_by old new i q r (of_peer keeps_requests old.peers new.peers i) refl is sender can out
+    peer_by old new i q r (keeps_request old.peers new.peers i q.key.from.ip) refl is sender can out
 goes_on old new q (requester.Home home) r is out sender can =
     home_by old new home q r (home_then old.realm new.realm q.key.from.ip home) refl is sender can
 

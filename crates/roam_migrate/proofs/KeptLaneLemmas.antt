@@ -15,7 +15,8 @@ use Rattle.roam_migrate.specs.Private.MoreLanes.{AreMoreLanes}
 use Rattle.roam_migrate.specs.Private.Moving.{AreMoved, AreRenewed, StandsFor, coa_place, lane_before}
 use Rattle.roam_migrate.specs.Reload.{link_before}
 use Rattle.roam_migrate.proofs.LinkPlaceLemmas.{cursor_at, made_at, place_below, tag_of_lane, tags_by}
-use Rattle.roam_migrate.proofs.RenewLemmas.{as_many, as_many_outs, coa_itself, is_told, kept_past, server_before, way_of}
+use Rattle.roam_reload.proofs.KeptLemmas.{coa_itself}
+use Rattle.roam_migrate.proofs.RenewLemmas.{as_many, as_many_outs, is_told, kept_past, server_before, way_of}
 
 -- ---- with further ones behind them each has what it had
 

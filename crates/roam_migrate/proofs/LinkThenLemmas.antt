@@ -3,7 +3,7 @@ use Rattle.std.proofs.Common.{◌≡◌, ◌⊎◌, ℕ, zero, suc, ◌+◌, ◌
 use Rattle.std.proofs.lemmas.Bool.{cases_Bool, cases_lt, or_parts}
 use Rattle.std.proofs.lemmas.Option.{same_Some}
 use Rattle.roam_conf.specs.Config.{PeerView, RealmView, ServerView}
-use Rattle.roam_conf.specs.Duplicates.{has_pair, has_pair_of_servers, same_client, same_endpoint, server_endpoints}
+use Rattle.roam_conf.specs.Duplicates.{has_pair, same_client, same_endpoint, server_endpoints}
 use Rattle.roam_conf.specs.declared.place.Link.{Link}
 use Rattle.roam_conf.specs.declared.place.Link.TheVariants as link
 use Rattle.std.proofs.lemmas.Nat.{mul-le}
@@ -11,19 +11,21 @@ use Rattle.roam_address.specs.declared.endpoint.Endpoint.{Endpoint}
 use Rattle.roam_conf.specs.Lookup.{out_of}
 use Rattle.roam_reload.specs.Kept.{both_or_none, keeps_coa, of_peer, same_out, server_then}
 use Rattle.roam_realm.specs.RealmConfig.{IsLink, RealmConfig, end_place, link_count, link_place, server_link_count}
-use Rattle.roam_migrate.specs.Carrying.{HaveDistinctServers}
+use Rattle.roam_migrate.specs.Carrying.{AreDistinct, HaveDistinctServers}
 use Rattle.roam_migrate.specs.Reload.{link_before, link_then, way_before, way_then}
 use Rattle.roam_migrate.proofs.LinkPlaceLemmas.{way_bound}
-use Rattle.roam_migrate.proofs.ServerThenLemmas.{below_of, server_back, stands_then}
+use Rattle.roam_migrate.proofs.ServerThenLemmas.{StandOnce, below_of, server_back, stands_then}
 
 -- ---- links
 
-once_of : (realm : RealmView) → has_pair_of_servers realm ≡ false
-    → has_pair same_endpoint (server_endpoints realm.servers) ≡ false
-once_of realm h =
-    (or_parts (has_pair same_endpoint (server_endpoints realm.servers)) (has_pair same_client realm.coa_clients) h).0
+once_of : (realm : RealmView) → AreDistinct realm → StandOnce realm.servers
+once_of realm h = record {
+  once = (or_parts (has_pair same_endpoint (server_endpoints realm.servers)) (has_pair same_client realm.coa_clients)
+      h.once).0;
+  serve = h.serve;
+}
 
-module _ (ss ts : List ServerView) (once : has_pair same_endpoint (server_endpoints ss) ≡ false)
+module _ (ss ts : List ServerView) (once : StandOnce ss)
     (make : ℕ → Link) where
   server_link_by : (s : ℕ) (m : Link) (o : Option ℕ) → server_then ss ts s ≡ o → s < length ss
       → option_map make o ≡ Some m

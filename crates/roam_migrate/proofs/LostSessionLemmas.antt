@@ -10,6 +10,7 @@ use Rattle.roam_pending.specs.ListLaws.{IsIn}
 use Rattle.roam_pending.proofs.TestLemmas.{differs, same}
 use Rattle.roam_reload.specs.Kept.{keeps_sessions, of_peer, same_sessions}
 use Rattle.roam_reload.specs.Reload.{peer_part}
+use Rattle.roam_reload.proofs.PeerLemmas.{kept_part}
 use Rattle.roam_sessions.specs.Sessions.{Session, count_of_peer}
 use Rattle.roam_realm.specs.RealmConfig.{RealmConfig}
 use Rattle.roam_migrate.specs.Carrying.{AreChanged, AreRising}
@@ -151,7 +152,7 @@ as_often old new changed h peer =
           as (λ _. times old new peer changed ≡ 1) [
             | inl at ↦ once old new peer goes changed h.rising at
             | inr part ↦ absurd (let k : true ≡ false =
-                sym (kept_at old new peer (slice_get old peer) refl part) ∙ goes in cc)
+                sym (kept_at old new peer (slice_get old peer) refl (kept_part old new peer part)) ∙ goes in cc)
           ] in
           rw goes often)
     ]

@@ -1,6 +1,7 @@
 -- A change that doesn't touch a realm loses nothing of it.
 use Rattle.std.proofs.Common.{◌≡◌, ℕ, ◌-◌, List, refl, sym, ap, ◌∙◌, arith, length}
 use Rattle.roam_pending.specs.PlainEntry.{PlainEntry}
+use Rattle.roam_reload.proofs.AddressLemmas.{sources_stay}
 use Rattle.roam_sessions.specs.Sessions.{Session}
 use Rattle.roam_realm.specs.RealmConfig.{RealmConfig}
 use Rattle.roam_realm.specs.RealmState.{RealmState}
@@ -17,7 +18,8 @@ carries : (old new : RealmConfig) → StandsAsItIs old new → Carries old (besi
 carries old new h = record { seed = refl; index = refl; table = h.table; peers = h.peers }
 
 entries_stand : (old new : RealmConfig) → StandsAsItIs old new → (es : List PlainEntry) → entries_then old new es ≡ es
-entries_stand old new h es = entries_are old (beside old new) (carries old new h) es
+entries_stand old new h es =
+    entries_are old (beside old new) (carries old new h) (sources_stay old.peers new.peers h.peers h.count) es
 
 sessions_stand : (old new : RealmConfig) → StandsAsItIs old new → (ss : List Session) → sessions_then old new ss ≡ ss
 sessions_stand old new h ss = sessions_are old (beside old new) (carries old new h) ss

@@ -10,9 +10,9 @@ use Rattle.roam_conf.specs.Lookup.{out_of}
 use Rattle.roam_conf.specs.declared.place.Link.{Link}
 use Rattle.roam_ids.specs.LaneState.{LaneState}
 use Rattle.roam_pending.specs.ListLaws.{IsIn}
-use Rattle.roam_reload.specs.Kept.{both_or_none, keeps_coa, of_peer, same_server, server_then}
+use Rattle.roam_reload.specs.Kept.{both_or_none, of_peer, same_server, server_then}
 use Rattle.roam_reload.specs.Reload.{peer_part}
-use Rattle.roam_reload.proofs.KeptLemmas.{coa_stays}
+use Rattle.roam_reload.proofs.PeerLemmas.{kept_part}
 use Rattle.roam_realm.specs.RealmConfig.{RealmConfig}
 use Rattle.roam_realm.specs.Sound.{no_lane}
 use Rattle.roam_migrate.specs.Carrying.{AreChanged, StandAsBefore}
@@ -78,9 +78,6 @@ kept_past test (a ∷ old) new zero past = absurd (omega (arith, past))
 kept_past test (a ∷ old) [] (suc p) past = kept_past test old [] p (omega (arith, past))
 kept_past test (a ∷ old) (b ∷ new) (suc p) past = kept_past test old new p (omega (arith, past))
 
-pub coa_itself : (p : PeerView) → keeps_coa p p ≡ true
-coa_itself p = coa_stays (p ∷ []) (p ∷ []) (record { more = []; same = refl }) 0
-
 -- so one that doesn't keep all is told of
 pub is_told : (test : PeerView → PeerView → Bool) → ((p : PeerView) → test p p ≡ true)
     → ((a b : PeerView) → test a b ≡ test (peer_part a) (peer_part b)) → (old new : List PeerView) (changed : List ℕ)
@@ -91,7 +88,7 @@ is_told test itself parts old new changed told p no' =
       | inl below ↦ elim (told.told p below) as (λ _. (p < length old) × IsIn p changed) [
         | inl there ↦ (below, there)
         | inr same ↦ absurd (
-            let k : true ≡ false = sym (kept_by test itself parts old new p same) ∙ no' in cc)
+            let k : true ≡ false = sym (kept_by test itself parts old new p (kept_part old new p same)) ∙ no' in cc)
       ]
       | inr past ↦ absurd (let k : true ≡ false = sym (kept_past test old new p past) ∙ no' in cc)
     ]

@@ -41,7 +41,10 @@ use Rattle.roam_exchange.specs.OneRealm.{RealmEvent, request_came, reply_came, t
 use Rattle.roam_exchange.specs.OnReply.{counted, counted_peer, reply_turn, on_reply, once_returned, return_reply, returned_octets, returning, to_entry, to_standing, once_heard_from, shows_life}
 use Rattle.roam_exchange.specs.OnRequest.{admit, at_target, coa_links, first_seen, forwarded_entry, forwarded_octets, is_reverse, make_way, nak_octets, nak_or_new, new_request, of_key, on_request, once_forwarded, packet_to_link, position_after, drawn_at, packet_to_requester, held_reply, reverse_cause, targets}
 use Rattle.roam_exchange.specs.OnTick.{Progress, as_turn, due_each, due_entry, due_one, due_standing, fail_over, given_up, given_up_at, on_tick, once_refused, silent, without_entry}
-use Rattle.roam_realm.specs.RealmConfig.{RealmConfig, end_place, later_targets, link_endpoint, link_place, link_secret, links_from, nowhere, requester_secret, seal_required, service_of, ways_to}
+use Rattle.roam_realm.specs.RealmConfig.{RealmConfig, end_place, link_endpoint, link_place, link_secret, nowhere, requester_secret, seal_required, service_of, ways_to}
+use Rattle.roam_realm.specs.ServerOrder.{behind, later_targets, links_to, server_order, server_targets, server_ways}
+use Rattle.roam_realm.specs.declared.service.Service.{Service}
+use Rattle.roam_realm.specs.declared.service.Service.TheVariants as service
 use Rattle.roam_realm.specs.RealmState.{RealmState, Target, chosen_target, first_target, is_used_on, next_toward, ready_links, this_or, with_entries, with_next_ticket, with_rests}
 use Rattle.roam_realm.specs.Rests.{after_choice, after_silence, awake, is_resting, once_chosen, once_silent, rest_of, stands_back, after_sign, has_moment, once_heard, signs_of}
 use Rattle.roam_exchange.specs.Turn.{Turn, in_time, packets_of, refuses, sends, state_after, hears}
@@ -83,10 +86,15 @@ module _ (c : RealmConfig) where
   seal_same (link.Acct s out) = refl
   seal_same (link.Coa p out) = refl
 
-  later_same : (l : Link) → later_targets (bare c) l ≡ later_targets c l
-  later_same (link.Auth s out) = refl
-  later_same (link.Acct s out) = refl
-  later_same (link.Coa p out) = refl
+  links_same : (asked : Service) (servers : List ℕ) → links_to (bare c) asked servers ≡ links_to c asked servers
+  links_same asked [] = refl
+  links_same asked (server ∷ servers) = λ i. server_ways c asked server ++ links_same asked servers i
+
+  later_same : (q : PlainRequest) (l : Link) → later_targets (bare c) q l ≡ later_targets c q l
+  later_same q (link.Auth s out) =
+      links_same service.Authentication (behind s (server_order c service.Authentication q))
+  later_same q (link.Acct s out) = links_same service.Accounting (behind s (server_order c service.Accounting q))
+  later_same q (link.Coa p out) = refl
 
   -- shapings
   removed_same : (r : Requester) → removed_for (bare c) r ≡ removed_for c r
@@ -228,10 +236,10 @@ module _ (c : RealmConfig) where
       let reverse : coa_links (bare c) (target (map peer_part c.peers) attributes)
       ≡ coa_links c (target c.peers attributes) =
       ap (coa_links (bare c)) (target_same c.peers attributes) ∙ coa_links_same (target c.peers attributes) in
-      λ i.
-      if is_reverse q
-      then reverse i
-      else links_from c (service_of (packet_of q.octets).code) 0
+      let asked = service_of (packet_of q.octets).code in
+      let servers : server_targets (bare c) asked q ≡ server_targets c asked q =
+      links_same asked (server_order c asked q) in
+      λ i. if is_reverse q then reverse i else servers i
 
   -- conversations
   bound_same : (s : RealmState) (entries : List PlainEntry) (q : PlainRequest) (links : List Link) →
@@ -433,17 +441,18 @@ module _ (c : RealmConfig) where
   due_standing_same now s e (waiting l id octets sends_left deadline signs) =
       let es = without e.ticket s.entries in
       let chosen : chosen_target (bare c) now (after_silence (bare c) now s.rests l signs) s.cursors es
-      (later_targets (bare c) l)
-      ≡ chosen_target c now (after_silence c now s.rests l signs) s.cursors es (later_targets c l) =
-      (λ i. chosen_target (bare c) now (silence_same now s.rests l signs i) s.cursors es (later_same l i))
-      ∙ chosen_same now (after_silence c now s.rests l signs) s.cursors es (later_targets c l) in
+      (later_targets (bare c) e.request l)
+      ≡ chosen_target c now (after_silence c now s.rests l signs) s.cursors es (later_targets c e.request l) =
+      (λ i. chosen_target (bare c) now (silence_same now s.rests l signs i) s.cursors es (later_same e.request l i))
+      ∙ chosen_same now (after_silence c now s.rests l signs) s.cursors es (later_targets c e.request l) in
       let over : fail_over (bare c) now (given_up_at (bare c) now l signs s e) e
-      (chosen_target (bare c) now (after_silence (bare c) now s.rests l signs) s.cursors es (later_targets (bare c) l))
+      (chosen_target (bare c) now (after_silence (bare c) now s.rests l signs) s.cursors es
+      (later_targets (bare c) e.request l))
       ≡ fail_over c now (given_up_at c now l signs s e) e
-      (chosen_target c now (after_silence c now s.rests l signs) s.cursors es (later_targets c l)) =
+      (chosen_target c now (after_silence c now s.rests l signs) s.cursors es (later_targets c e.request l)) =
       (λ i. fail_over (bare c) now (given_up_at_same now l signs s e i) e (chosen i))
       ∙ fail_over_same now (given_up_at c now l signs s e) e
-      (chosen_target c now (after_silence c now s.rests l signs) s.cursors es (later_targets c l)) in
+      (chosen_target c now (after_silence c now s.rests l signs) s.cursors es (later_targets c e.request l)) in
       λ i. if nat_lt 0 sends_left
       then record {
         packets = to_same l octets i ∷ [];

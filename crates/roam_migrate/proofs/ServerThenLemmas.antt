@@ -1,6 +1,6 @@
 -- Where a server of one list stands in another: it is one relation, read from its two ends.
-use Rattle.std.proofs.Common.{◌≡◌, ℕ, zero, suc, ◌+◌, ◌<◌, ◌&&◌, Bool, true, false, List, [], ◌∷◌, length, Option, Some, None, refl, sym, ap, subst, ◌∙◌, arith, inl, inr, slice_get}
-use Rattle.std.specs.List.{position_from}
+use Rattle.std.proofs.Common.{◌≡◌, ℕ, zero, suc, ◌+◌, ◌<◌, ◌&&◌, ◌||◌, Bool, true, false, List, [], ◌∷◌, length, Option, Some, None, is_some, refl, sym, ap, subst, ◌∙◌, arith, inl, inr, slice_get}
+use Rattle.std.specs.List.{AllByRecursion, position_from}
 use Rattle.std.specs.Option.{option_and_then}
 use Rattle.std.specs.Str.{bytes_eq}
 use Rattle.std.proofs.lemmas.Bool.{cases_Bool}
@@ -13,6 +13,7 @@ use Rattle.roam_address.specs.declared.endpoint.Endpoint.{Endpoint}
 use Rattle.roam_conf.proofs.EqualPartsLemmas.{endpoint_decides}
 use Rattle.roam_conf.proofs.OneServerLemmas.{one_server, part_of}
 use Rattle.roam_reload.specs.Kept.{both_or_none, same_server, server_then}
+use Rattle.roam_migrate.specs.Carrying.{Serves}
 
 -- ---- which servers are the same
 
@@ -37,11 +38,11 @@ record AreSame (a b : ServerView) : Type 0 where
 
 are_same : (a b : ServerView) → same_server a b ≡ true → AreSame a b
 are_same a b h =
-    let first = both (same_endpoint a.auth b.auth && both_or_none same_endpoint a.acct b.acct)
+    let first = both (both_or_none same_endpoint a.auth b.auth && both_or_none same_endpoint a.acct b.acct)
     (bytes_eq a.secret b.secret) h in
-    let second = both (same_endpoint a.auth b.auth) (both_or_none same_endpoint a.acct b.acct) first.0 in
+    let second = both (both_or_none same_endpoint a.auth b.auth) (both_or_none same_endpoint a.acct b.acct) first.0 in
     record {
-      auth = (endpoint_decides a.auth b.auth).0 second.0;
+      auth = if_any a.auth b.auth second.0;
       acct = if_any a.acct b.acct second.1;
       secret = (bytes_eq-Decides a.secret b.secret).0 first.1;
     }
@@ -50,7 +51,7 @@ same_again : (a b : ServerView) → AreSame a b → same_server b a ≡ true
 same_again a b h =
     rw (h.auth, h.acct, h.secret)
     (rw (
-      (endpoint_decides b.auth b.auth).1 refl,
+      if_any_itself b.auth,
       if_any_itself b.acct,
       (bytes_eq-Decides b.secret b.secret).1 refl,
     ) refl)
@@ -136,16 +137,46 @@ stands_then ss ts s t h below =
       | inr n ↦ place_by ss ts s t (slice_get ss s) refl (rw n at h)
     ]
 
--- two places of one server in a list whose endpoints stand once are one
-one_place : (ts : List ServerView) (t u : ℕ) (a b c : ServerView)
-    → has_pair same_endpoint (server_endpoints ts) ≡ false
+-- ---- it stands at one place
+
+-- each server of a list has an endpoint, and no endpoint stands twice
+pub record StandOnce (ss : List ServerView) : Type 0 where
+  pub once : has_pair same_endpoint (server_endpoints ss) ≡ false
+  pub serve : AllByRecursion Serves ss
+
+serves_at : (ss : List ServerView) (s : ℕ) (a : ServerView) → AllByRecursion Serves ss → slice_get ss s ≡ Some a
+    → Serves a
+serves_at [] s a all at = absurd (cc at)
+serves_at (x ∷ xs) zero a all at = subst Serves (same_Some x a at) all.0
+serves_at (x ∷ xs) (suc s) a all at = serves_at xs s a all.1 at
+
+-- an endpoint of a server, and of which kind it is
+record HasPart (s : ServerView) : Type 0 where
+  kind : Bool
+  endpoint : Endpoint
+  is : part_of kind s ≡ Some endpoint
+
+part_by : (s : ServerView) (a b : Option Endpoint) → s.auth ≡ a → s.acct ≡ b → is_some a || is_some b ≡ true
+    → HasPart s
+part_by s (Some e) b auth acct some = record { kind = true; endpoint = e; is = auth }
+part_by s None (Some e) auth acct some = record { kind = false; endpoint = e; is = acct }
+part_by s None None auth acct some = absurd (cc some)
+
+same_part : (kind : Bool) (a b : ServerView) → AreSame a b → part_of kind a ≡ part_of kind b
+same_part true a b same = same.auth
+same_part false a b same = same.acct
+
+-- two places of one server in such a list are one
+one_place : (ts : List ServerView) (t u : ℕ) (a b c : ServerView) → StandOnce ts
     → slice_get ts t ≡ Some b → slice_get ts u ≡ Some c → same_server a b ≡ true → same_server a c ≡ true → t ≡ u
-one_place ts t u a b c once at there p q =
-    let first : option_and_then (part_of true) (slice_get ts t) ≡ Some a.auth =
-    ap (option_and_then (part_of true)) at ∙ ap (λ (e : Endpoint). Some e) (sym (are_same a b p).auth) in
-    let second : option_and_then (part_of true) (slice_get ts u) ≡ Some a.auth =
-    ap (option_and_then (part_of true)) there ∙ ap (λ (e : Endpoint). Some e) (sym (are_same a c q).auth) in
-    (one_server ts true true t u a.auth once first second).0
+one_place ts t u a b c stand at there p q =
+    let part = part_by b b.auth b.acct refl refl (serves_at ts t b stand.serve at) in
+    let back = sym (same_part part.kind a c (are_same a c q)) ∙ same_part part.kind a b (are_same a b p) in
+    let first : option_and_then (part_of part.kind) (slice_get ts t) ≡ Some part.endpoint =
+    ap (option_and_then (part_of part.kind)) at ∙ part.is in
+    let second : option_and_then (part_of part.kind) (slice_get ts u) ≡ Some part.endpoint =
+    ap (option_and_then (part_of part.kind)) there ∙ back ∙ part.is in
+    (one_server ts part.kind part.kind t u part.endpoint stand.once first second).0
 
 then_by : (ss ts : List ServerView) (s : ℕ) (o : Option ServerView) (a b : ServerView) (t : ℕ)
     → o ≡ Some a → slice_get ts t ≡ Some b → same_server a b ≡ true
@@ -172,8 +203,7 @@ below_of [] i x at = absurd (cc at)
 below_of (y ∷ ys) zero x at = omega arith
 below_of (y ∷ ys) (suc i) x at = let rest = below_of ys i x at in omega (arith, rest)
 
-then_is : (ss ts : List ServerView) (s t : ℕ) → has_pair same_endpoint (server_endpoints ts) ≡ false
-    → Stands ss ts s t → server_then ss ts s ≡ Some t
+then_is : (ss ts : List ServerView) (s t : ℕ) → StandOnce ts → Stands ss ts s t → server_then ss ts s ≡ Some t
 then_is ss ts s t once h =
     let found = some_then ss ts s t h in
     let at = stands_then ss ts s found.0 found.1 (below_of ss s h.before h.was) in
@@ -188,8 +218,8 @@ turned ss ts s t h =
     record { before = h.after; after = h.before; was = h.is; is = h.was; same = other_way h.before h.after h.same }
 
 -- it is one relation
-pub server_back : (ss ts : List ServerView) (s t : ℕ) → has_pair same_endpoint (server_endpoints ss) ≡ false
-    → server_then ss ts s ≡ Some t → s < length ss → (server_then ts ss t ≡ Some s) × (t < length ts)
+pub server_back : (ss ts : List ServerView) (s t : ℕ) → StandOnce ss → server_then ss ts s ≡ Some t → s < length ss
+    → (server_then ts ss t ≡ Some s) × (t < length ts)
 server_back ss ts s t once h below =
     let at = stands_then ss ts s t h below in
     (then_is ts ss t s once (turned ss ts s t at), below_of ts t at.after at.is)

@@ -1,5 +1,7 @@
 -- The laws of a realm that a change doesn't touch.
 use Rattle.std.proofs.Common.{◌≡◌, ℕ, ◌+◌, ◌-◌, ◌*◌, List, ◌++◌, length, replicate, ap, sym, ◌∙◌, arith, append-nil}
+use Rattle.roam_reload.specs.Kept.{KeepsSources}
+use Rattle.roam_reload.proofs.AddressLemmas.{sources_stay}
 use Rattle.roam_exchange.specs.OneRealm.{one_realm_run}
 use Rattle.roam_realm.specs.RealmConfig.{RealmConfig, link_count}
 use Rattle.roam_realm.specs.RealmState.{RealmState}
@@ -9,10 +11,11 @@ use Rattle.roam_migrate.proofs.ReloadLemmas.{servers, ways}
 use Rattle.roam_migrate.proofs.SameBrokerLemmas.{as_if_nothing}
 use Rattle.roam_migrate.proofs.UntouchedLemmas.{entries_are, rests_are, sessions_are}
 
-pub nothing_goes : (old new : RealmConfig) → Carries old new → (s : RealmState) → length s.cursors ≡ link_count old
+pub nothing_goes : (old new : RealmConfig) → Carries old new → KeepsSources old.peers new.peers → (s : RealmState)
+    → length s.cursors ≡ link_count old
     → carried old new s ≡ record s { cursors = s.cursors ++ replicate (link_count new - link_count old) 0 }
-nothing_goes old new k s count = λ i. record {
-  entries = entries_are old new k s.entries i;
+nothing_goes old new k sources s count = λ i. record {
+  entries = entries_are old new k sources s.entries i;
   ticket = s.ticket;
   cursors = cursors_are old new k s.cursors count i;
   stream_position = s.stream_position;
@@ -21,7 +24,7 @@ nothing_goes old new k s count = λ i. record {
 }
 
 pub takes_nothing : TakesNothing
-takes_nothing old new k s places = nothing_goes old new k s places.cursors
+takes_nothing old new k sources s places = nothing_goes old new k sources s places.cursors
 
 -- where no peer is new it goes on just as it stands
 stands : (old new : RealmConfig) → Carries old new → length new.peers ≡ length old.peers → (s : RealmState)
@@ -32,7 +35,8 @@ stands old new k count s places =
     let none : link_count new - link_count old ≡ 0 = omega (arith, same_number) in
     let same : s.cursors ++ replicate (link_count new - link_count old) 0 ≡ s.cursors =
     ap (λ (n : ℕ). s.cursors ++ replicate n 0) none ∙ append-nil s.cursors in
-    takes_nothing old new k s places ∙ ap (λ (c : List ℕ). record s { cursors = c }) same
+    takes_nothing old new k (sources_stay old.peers new.peers k.peers count) s places
+    ∙ ap (λ (c : List ℕ). record s { cursors = c }) same
 
 -- where events keep the places of a state
 pub as_if_nothing_changed : PlacesStay → AsIfNothingChanged

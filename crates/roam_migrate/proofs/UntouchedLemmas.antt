@@ -19,7 +19,7 @@ use Rattle.roam_pending.specs.declared.key.Key.{Key}
 use Rattle.roam_pending.specs.declared.key.Requester.{Requester}
 use Rattle.roam_pending.specs.declared.key.Requester.TheVariants as requester
 use Rattle.roam_pending.specs.PlainEntry.{PlainEntry, PlainRequest, PlainStanding, waiting, done}
-use Rattle.roam_reload.specs.Kept.{both_or_none, home_then, keeps_sessions, of_peer, same_out, same_servers, same_sessions, same_values, server_then}
+use Rattle.roam_reload.specs.Kept.{KeepsSources, both_or_none, home_then, keeps_sessions, of_peer, same_out, same_servers, same_sessions, same_values, server_then}
 use Rattle.roam_reload.proofs.KeptLemmas.{coa_stays, home_stays, requests_stay, server_stays, servers_itself, sessions_stay, values_itself}
 use Rattle.roam_sessions.specs.Sessions.{Session}
 use Rattle.roam_realm.specs.RealmConfig.{RealmConfig}
@@ -58,9 +58,11 @@ way_is old new k l = rw (out_stays old new k (out_of l)) (link_is old new k l)
 -- ---- requests
 
 requester_is :
-    (old new : RealmConfig) → Carries old new → (key : Key) (r : Requester) → requester_then old new key r ≡ Some r
-requester_is old new k key (requester.Peer p) = rw (requests_stay old.peers new.peers k.peers p) refl
-requester_is old new k key (requester.Home h) =
+    (old new : RealmConfig) → Carries old new → KeepsSources old.peers new.peers → (key : Key) (r : Requester)
+    → requester_then old new key r ≡ Some r
+requester_is old new k sources key (requester.Peer p) =
+    rw (requests_stay old.peers new.peers k.peers sources p key.from.ip) refl
+requester_is old new k sources key (requester.Home h) =
     ap (λ (r : RealmView). option_map (λ t. requester.Home t) (home_then old.realm r key.from.ip h)) k.table
     ∙ ap (option_map (λ t. requester.Home t)) (home_stays old.realm key.from.ip h)
 
@@ -85,9 +87,10 @@ fits_as_before old new k q (requester.Peer p) =
       | inr past ↦ rw (slice_get_past old.peers p past) (away (fits old p q) (fits new p q))
     ]
 
-request_is : (old new : RealmConfig) → Carries old new → (q : PlainRequest) → request_then old new q ≡ Some q
-request_is old new k q =
-    rw (fits_as_before old new k q q.requester, requester_is old new k q.key q.requester) refl
+request_is : (old new : RealmConfig) → Carries old new → KeepsSources old.peers new.peers → (q : PlainRequest)
+    → request_then old new q ≡ Some q
+request_is old new k sources q =
+    rw (fits_as_before old new k q q.requester, requester_is old new k sources q.key q.requester) refl
 
 -- ---- entries
 
@@ -97,13 +100,14 @@ standing_is old new k (waiting l id forwarded sends_left deadline signs) = rw (w
 standing_is old new k (done reply deadline None) = refl
 standing_is old new k (done reply deadline (Some l)) = rw (way_is old new k l) refl
 
-entry_is : (old new : RealmConfig) → Carries old new → (e : PlainEntry) → entry_then old new e ≡ Some e
-entry_is old new k e = rw (request_is old new k e.request, standing_is old new k e.standing) refl
+entry_is : (old new : RealmConfig) → Carries old new → KeepsSources old.peers new.peers → (e : PlainEntry)
+    → entry_then old new e ≡ Some e
+entry_is old new k sources e = rw (request_is old new k sources e.request, standing_is old new k e.standing) refl
 
-each_is : (old new : RealmConfig) → Carries old new → (es : List PlainEntry)
+each_is : (old new : RealmConfig) → Carries old new → KeepsSources old.peers new.peers → (es : List PlainEntry)
     → filter_map (entry_then old new) es ≡ es
-each_is old new k [] = refl
-each_is old new k (e ∷ es) = rw (entry_is old new k e, each_is old new k es) refl
+each_is old new k sources [] = refl
+each_is old new k sources (e ∷ es) = rw (entry_is old new k sources e, each_is old new k sources es) refl
 
 few_are : (old new : RealmConfig) → Carries old new → (es : List PlainEntry) → few_enough old new es ≡ es
 few_are old new k es =
@@ -111,8 +115,9 @@ few_are old new k es =
     then without_done (length es - r.max_pending) es else es) k.table
     ∙ rw (le-ltb old.realm.max_pending old.realm.max_pending (omega arith)) refl
 
-pub entries_are : (old new : RealmConfig) → Carries old new → (es : List PlainEntry) → entries_then old new es ≡ es
-entries_are old new k es = ap (few_enough old new) (each_is old new k es) ∙ few_are old new k es
+pub entries_are : (old new : RealmConfig) → Carries old new → KeepsSources old.peers new.peers
+    → (es : List PlainEntry) → entries_then old new es ≡ es
+entries_are old new k sources es = ap (few_enough old new) (each_is old new k sources es) ∙ few_are old new k es
 
 -- ---- rests and sessions
 

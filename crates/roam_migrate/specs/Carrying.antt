@@ -1,12 +1,12 @@
 -- The parts at hand when a realm goes on under another part of a configuration: words of private functions alone
 -- (ours).
-use Rattle.std.specs.Prelude.{◌≡◌, ◌⊎◌, Bool, true, false, ℕ, ◌<◌, ◌≤◌, List, [], ◌∷◌, ◌++◌, if◌then◌else◌, length, map, Option, Some, None, slice_get, vec_capacity}
+use Rattle.std.specs.Prelude.{◌≡◌, ◌⊎◌, ◌||◌, Bool, true, false, ℕ, ◌<◌, ◌≤◌, List, [], ◌∷◌, ◌++◌, if◌then◌else◌, length, Option, Some, None, is_some, vec_capacity}
 use Rattle.std.specs.List.{AllByRecursion}
-use Rattle.roam_conf.specs.Config.{PeerView}
+use Rattle.roam_conf.specs.Config.{PeerView, RealmView, ServerView}
 use Rattle.roam_conf.specs.Duplicates.{has_pair_of_servers}
 use Rattle.roam_pending.specs.ListLaws.{IsIn}
 use Rattle.roam_reload.specs.Kept.{same_outs, same_servers}
-use Rattle.roam_reload.specs.Reload.{KeepsPeers, peer_part, realm_part}
+use Rattle.roam_reload.specs.Reload.{IsKeptAt, KeepsPeers, realm_part}
 use Rattle.roam_realm.specs.RealmConfig.{RealmConfig, link_count}
 use Rattle.roam_realm.specs.Rests.{all_awake}
 use Rattle.roam_realm.specs.declared.realm_numbers.RealmNumbers.{RealmNumbers}
@@ -29,22 +29,32 @@ abbrev pub AreRising : List ℕ → Type 0
 AreRising [] = Unit {0}
 AreRising (n ∷ ns) = AllByRecursion (λ m. n < m) ns × AreRising ns
 
--- an old peer's table is the one that it was, in the part on which packets depend, or its index is one of these, which
--- rise
+-- an old peer's table is the one that it was, in the part on which packets depend and in its prefixes, or its index is
+-- one of these, which rise
 pub record AreChanged (old new : List PeerView) (changed : List ℕ) : Type 0 where
   pub told :
       (peer : ℕ) → peer < length old
-      → IsIn peer changed ⊎ (slice_get (map peer_part new) peer ≡ slice_get (map peer_part old) peer)
+      → IsIn peer changed ⊎ IsKeptAt old new peer
   pub rising : AreRising changed
 
--- neither a realm's table nor any peer's is another one, as far as packets depend on them
+-- neither a realm's table nor any peer's is another one, as far as packets depend on them, and no peer is new
 pub record StandsAsItIs (old new : RealmConfig) : Type 0 where
   pub table : realm_part new.realm ≡ realm_part old.realm
   pub peers : KeepsPeers old.peers new.peers
+  pub count : length new.peers ≡ length old.peers
 
--- in neither part two servers are at one endpoint: so each has one place in the other part, if any
+-- a server takes requests of one service at least
+abbrev pub Serves : ServerView → Type 0
+Serves server = is_some server.auth || is_some server.acct ≡ true
+
+-- each server of a realm has an endpoint, and no two are at one
+pub record AreDistinct (realm : RealmView) : Type 0 where
+  pub once : has_pair_of_servers realm ≡ false
+  pub serve : AllByRecursion Serves realm.servers
+
+-- the servers of both parts are distinct: so each has one place in the other part, if any
 abbrev pub HaveDistinctServers : RealmConfig → RealmConfig → Type 0
-HaveDistinctServers old new = (has_pair_of_servers old.realm ≡ false) × (has_pair_of_servers new.realm ≡ false)
+HaveDistinctServers old new = AreDistinct old.realm × AreDistinct new.realm
 
 -- each server and each `out` stands where it stood, and no peer's place is gone
 pub record StandAsBefore (old new : RealmConfig) : Type 0 where

@@ -16,7 +16,7 @@ use Rattle.roam_pending.specs.declared.key.Key.{Key}
 use Rattle.roam_pending.specs.declared.key.Requester.{Requester}
 use Rattle.roam_pending.specs.declared.key.Requester.TheVariants as requester
 use Rattle.roam_pending.specs.PlainEntry.{PlainEntry, PlainRequest, PlainStanding, waiting, done, is_done}
-use Rattle.roam_reload.specs.Kept.{home_then, keeps_coa, keeps_requests, keeps_sessions, of_peer, same_out, same_servers, same_sessions, server_then}
+use Rattle.roam_reload.specs.Kept.{KeepsSources, home_then, keeps_coa, keeps_request, keeps_sessions, of_peer, same_out, same_servers, same_sessions, server_then}
 use Rattle.roam_reload.specs.Reload.{IsUntouched, KeepsPeers, realm_part}
 use Rattle.roam_sessions.specs.Sessions.{Session}
 use Rattle.roam_realm.specs.RealmConfig.{RealmConfig, link_count, link_place, realm_config, server_link, server_link_count}
@@ -57,7 +57,7 @@ way_before old new l = if same_out old.realm new.realm (out_of l) then link_befo
 -- the sender of a request, if what goes back to it still does so
 abbrev pub requester_then : RealmConfig → RealmConfig → Key → Requester → Option Requester
 requester_then old new key (requester.Peer peer) =
-    if of_peer keeps_requests old.peers new.peers peer then Some (requester.Peer peer) else None
+    if keeps_request old.peers new.peers peer key.from.ip then Some (requester.Peer peer) else None
 requester_then old new key (requester.Home home) =
     option_map (λ h. requester.Home h) (home_then old.realm new.realm key.from.ip home)
 
@@ -174,17 +174,18 @@ sessions_then old new ss =
 
 -- ## Carried over
 -- The state of a realm that goes on, under its part of the new configuration. Ticket and place in the stream of random
--- words stand as they did. The entries stay, in order, but those of a peer that went or whose `ip` or `secret` changed,
--- those of reverse requests whose sender's address or secret is nobody's any more, and of those that wait the ones
--- whose link is gone or has another endpoint, secret or `out`; a held one whose link is so keeps no link. An entry
--- stays with its server wherever that stands now. Of peers' requests those go as well that with what is added for their
--- peer now would have more than 4096 octets. Cursors, rests and counts stay with their link. The ledger stays, without
--- the sessions of peers that went; it is empty where `own_sessions` changed. Where `max_sessions` fell, the oldest
--- sessions go; where `max_pending` fell, held replies go in order of ticket. All other keys count from then on, and
--- change nothing here.
+-- words stand as they did. The entries stay, in order, but those of a peer that went or whose `secret` changed, those
+-- whose address isn't their peer's any more, those of reverse requests whose sender's address or secret is nobody's any
+-- more, and of those that wait the ones whose link is gone or has another endpoint, secret or `out`; a held one whose
+-- link is so keeps no link. An entry stays with its server wherever that stands now. Of peers' requests those go as
+-- well that with what is added for their peer now would have more than 4096 octets. Cursors, rests and counts stay with
+-- their link. The ledger stays, without the sessions of peers that went; it is empty where `own_sessions` changed.
+-- Where `max_sessions` fell, the oldest sessions go; where `max_pending` fell, held replies go in order of ticket. All
+-- other keys count from then on, and change nothing here.
 -- Source: ours
--- Rules out: one peer's new secret that takes all entries and sessions; a reply signed with another secret than the
--- request; an entry at a server that stands where its own stood; a session of a peer back under another number
+-- Rules out: one peer's new secret that takes all entries and sessions; an entry lost by a further address; a reply
+-- signed with another secret than the request; an entry at a server that stands where its own stood; a session of a
+-- peer back under another number
 -- Stands in: `roam_migrate` `Reload.antt`: `carried`, `entries_then`, `sessions_then`, `link_then`, `requester_then`;
 -- `carry_over`, the laws `untouched_realms_go_on`, `carried_takes_no_more`
 --
@@ -205,8 +206,8 @@ pub record HasPlaces (c : RealmConfig) (s : RealmState) : Type 0 where
 
 -- ## Realm that a change doesn't touch
 -- Where a realm's table is equal, `name` and `also` aside, and each peer's that was there, it is carried over as it
--- stands, with a cursor 0 for each link to a further peer. Where no peer is new its broker is the same one, so its
--- packets before the change and after it are those that it would have sent had nothing changed.
+-- stands, with a cursor 0 for each link to a further peer, unless one of these has a longer prefix for another's
+-- address. Where no peer is new its broker is the same: its packets are those that it would have sent before.
 -- Source: ours
 -- Rules out: entries, tickets, random words or sessions lost where a realm's part stays as it is
 -- Stands in: `roam_migrate` `Reload.antt`: `Carries`, `TakesNothing`, `AsIfNothingChanged`; the law
@@ -225,10 +226,10 @@ UntouchedRealmsGoOn =
     (old new : ConfigView) (realm : ℕ) → new.seed ≡ old.seed → IsUntouched old new realm
     → Carries (realm_config old realm) (realm_config new realm)
 
--- its state is as it was, with a cursor 0 for each link to a further peer
+-- its state is as it was, with a cursor 0 for each link to a further peer, where no source is another peer's then
 abbrev pub TakesNothing : Type 0
 TakesNothing =
-    (old new : RealmConfig) → Carries old new → (s : RealmState) → HasPlaces old s
+    (old new : RealmConfig) → Carries old new → KeepsSources old.peers new.peers → (s : RealmState) → HasPlaces old s
     → carried old new s ≡ record s { cursors = s.cursors ++ replicate (link_count new - link_count old) 0 }
 
 -- where no peer is new, its written broker is the same: in any state, whatever its events, it sends the same packets
@@ -290,8 +291,7 @@ CarriedAddsNothing =
     → slice_get (carried old new s).entries i ≡ Some after
     → (j : ℕ) × (before : PlainEntry) × (slice_get s.entries j ≡ Some before) × ComesOver old new before after
 
--- an entry stays whose sender stays, which isn't too large now, and which waits at a link that stays, if it waits,
--- where no fewer may be pending
+-- an entry stays whose sender and link stay, and which isn't too large now, where no fewer may be pending
 abbrev pub CarriedTakesNoMore : Type 0
 CarriedTakesNoMore =
     (old new : RealmConfig) (s : RealmState) (j : ℕ) (before after : PlainEntry)

@@ -4,17 +4,17 @@ ghost use Rattle.std.specs.Prelude.{◌≡◌, ◌<◌, IfSome, IfNone, Some, No
 ghost use Rattle.roam_wire.specs.Reading.{IsPacketText, packet_of};
 ghost use Rattle.roam_pending.specs.Realms.{with_ends, with_home};
 ghost use Rattle.roam_pending.specs.Shown.{shown, shown_request};
-ghost use Rattle.roam_reload.specs.Kept.{keeps_coa, of_peer};
+ghost use Rattle.roam_reload.specs.Kept.{keeps_coa, keeps_request, keeps_source, of_peer};
 ghost use Rattle.roam_realm.specs.RealmConfig.{RealmConfig};
 ghost use Rattle.roam_realm.specs.Sound.{IsOfPeer, IsRequest};
 ghost use Rattle.roam_migrate.specs.Reload.{entry_then, fits, link_before, link_then, request_from, request_then};
 ghost use Rattle.roam_migrate.specs.Reload.{way_before, way_then};
 
-use roam_conf::Link;
+use roam_conf::{Address, Link};
 use roam_forward::can_be_shaped;
 use roam_pending::{Entry, Request, Requester, Standing};
 use roam_realm::RealmSettings;
-use roam_reload::{home_then, is_same_out, peer_keeps_coa, peer_keeps_requests, server_then};
+use roam_reload::{home_then, is_same_out, peer_keeps_coa, peer_keeps_secret, server_then};
 use roam_wire::View;
 use std::alloc::Allocator;
 
@@ -26,7 +26,7 @@ pub(crate) struct Ends {
     pub(crate) link: Option<Link>,
 }
 
-/// The link to the `auth` of a server by an `out`, if there is one.
+/// Returns the link to the `auth` of a server by an `out`, if there is one.
 fn auth_of(server: Option<u8>, out: u8) -> Option<Link>
     ensures { result ≡ option_map (λ s. Link.Auth s out) server }
 {
@@ -36,7 +36,7 @@ fn auth_of(server: Option<u8>, out: u8) -> Option<Link>
     }
 }
 
-/// The link to the `acct` of a server by an `out`, if there is one.
+/// Returns the link to the `acct` of a server by an `out`, if there is one.
 fn acct_of(server: Option<u8>, out: u8) -> Option<Link>
     ensures { result ≡ option_map (λ s. Link.Acct s out) server }
 {
@@ -46,7 +46,7 @@ fn acct_of(server: Option<u8>, out: u8) -> Option<Link>
     }
 }
 
-/// The link to the `coa` of a peer by an `out`, where that `coa` is the same in both.
+/// Returns the link to the `coa` of a peer by an `out`, where that `coa` is the same in both.
 fn coa_of(old: &RealmSettings<'_>, new: &RealmSettings<'_>, peer: u16, out: u8) -> Option<Link>
     ensures { result ≡ (if of_peer keeps_coa old.now.peers new.now.peers peer then Some (Link.Coa peer out) else None) }
 {
@@ -57,7 +57,7 @@ fn coa_of(old: &RealmSettings<'_>, new: &RealmSettings<'_>, peer: u16, out: u8) 
     }
 }
 
-/// The link that a link is then, if it is there and the same.
+/// Returns the link under the new settings that a link of the old ones is, if it is there and the same.
 pub(crate) fn link_then(
     old: &RealmSettings<'_>,
     new: &RealmSettings<'_>,
@@ -72,7 +72,7 @@ pub(crate) fn link_then(
     }
 }
 
-/// The link that a link was before, if it was there and the same.
+/// Returns the link under the old settings that a link of the new ones was, if it was there and the same.
 pub(crate) fn link_before(
     old: &RealmSettings<'_>,
     new: &RealmSettings<'_>,
@@ -87,7 +87,8 @@ pub(crate) fn link_before(
     }
 }
 
-/// The same where what is forwarded leaves from the same `out`.
+/// Returns the link under the new settings that a link of the old ones is, if it is there and the same, and forwarded
+/// packets leave from the same `out`.
 fn way_then(old: &RealmSettings<'_>, new: &RealmSettings<'_>, link: Link) -> Option<Link>
     ensures { result ≡ way_then old.now new.now link }
 {
@@ -98,7 +99,8 @@ fn way_then(old: &RealmSettings<'_>, new: &RealmSettings<'_>, link: Link) -> Opt
     }
 }
 
-/// The same of the link that it was before.
+/// Returns the link under the old settings that a link of the new ones was, if it was there and the same, and
+/// forwarded packets left from the same `out`.
 pub(crate) fn way_before(
     old: &RealmSettings<'_>,
     new: &RealmSettings<'_>,
@@ -124,6 +126,20 @@ fn still_fits<A: Allocator>(new: &RealmSettings<'_>, peer: u16, request: &Reques
     can_be_shaped(&packet, &new.shaping_from(peer))
 }
 
+/// Returns whether a source that was a peer's still is.
+fn keeps_source(old: &RealmSettings<'_>, new: &RealmSettings<'_>, peer: u16, ip: Address) -> bool
+    ensures { result ≡ keeps_source old.now.peers new.now.peers peer ip }
+{
+    new.is_source_of(peer, ip) || !old.is_source_of(peer, ip)
+}
+
+/// Returns whether the requests of a peer stay that came from an address.
+fn keeps_request(old: &RealmSettings<'_>, new: &RealmSettings<'_>, peer: u16, ip: Address) -> bool
+    ensures { result ≡ keeps_request old.now.peers new.now.peers peer ip }
+{
+    peer_keeps_secret(old.peers(), new.peers(), peer) && keeps_source(old, new, peer, ip)
+}
+
 /// Returns whether a peer's request stays.
 fn peer_stays<A: Allocator>(
     old: &RealmSettings<'_>,
@@ -137,14 +153,15 @@ fn peer_stays<A: Allocator>(
         ≡ Some (request_from (shown_request request.now) (with_home None request.now.requester)) }
     ensures goes { result ≡ false → request_then old.now new.now (shown_request request.now) ≡ None }
 {
-    if peer_keeps_requests(old.peers(), new.peers(), peer) {
+    if keeps_request(old, new, peer, request.key.from.ip) {
         still_fits(new, peer, request)
     } else {
         false
     }
 }
 
-/// The sender of a request then: the number of the home server, where one sent it. None where its requests don't stay.
+/// Returns the sender of a request under the new settings: the number of the home server, where one sent it. Returns
+/// `None` where its requests don't stay.
 fn sender_then<A: Allocator>(
     old: &RealmSettings<'_>,
     new: &RealmSettings<'_>,
@@ -172,7 +189,7 @@ fn sender_then<A: Allocator>(
     }
 }
 
-/// The link that a held reply keeps then, of the one from which it came.
+/// Returns the link that a held reply keeps under the new settings, of the one from which it came.
 fn held_link(old: &RealmSettings<'_>, new: &RealmSettings<'_>, from: Option<Link>) -> Option<Link>
     ensures { result ≡ option_and_then (way_then old.now new.now) from }
 {
@@ -182,7 +199,8 @@ fn held_link(old: &RealmSettings<'_>, new: &RealmSettings<'_>, from: Option<Link
     }
 }
 
-/// The ends of an entry then, of which the request stays; none where it waits at a link that doesn't.
+/// Returns the ends, under the new settings, of an entry whose request stays. Returns `None` where it waits at a link
+/// that doesn't stay.
 fn standing_ends<A: Allocator>(
     old: &RealmSettings<'_>,
     new: &RealmSettings<'_>,
@@ -216,7 +234,7 @@ fn standing_ends<A: Allocator>(
     }
 }
 
-/// The ends of an entry then; none where it doesn't stay.
+/// Returns the ends of an entry under the new settings. Returns `None` where it doesn't stay.
 pub(crate) fn ends_then<A: Allocator>(
     old: &RealmSettings<'_>,
     new: &RealmSettings<'_>,

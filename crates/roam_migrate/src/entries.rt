@@ -64,7 +64,8 @@ fn let_go<A: Allocator + Copy, E: Entries<A>>(
     }
 }
 
-/// The ends of the entry of a ticket then; none where it isn't there or doesn't stay.
+/// Returns the ends, under the new settings, of the entry of a ticket. Returns `None` where it isn't there or doesn't
+/// stay.
 fn ends_at<A: Allocator + Copy, E: Entries<A>>(
     old: &RealmSettings<'_>,
     new: &RealmSettings<'_>,
@@ -86,7 +87,7 @@ fn ends_at<A: Allocator + Copy, E: Entries<A>>(
     }
 }
 
-/// The entry of a ticket goes, or has the numbers of its ends that they have then.
+/// Takes the entry of a ticket out, or gives it the numbers that its ends have under the new settings.
 fn carry_one<A: Allocator + Copy, E: Entries<A>>(
     old: &RealmSettings<'_>,
     new: &RealmSettings<'_>,
@@ -116,7 +117,8 @@ fn carry_one<A: Allocator + Copy, E: Entries<A>>(
     }
 }
 
-/// All entries of a realm that stay have the numbers of their ends that they have then; all others go. Takes no memory.
+/// Gives all entries of a realm that stay the numbers that their ends have under the new settings, and takes all
+/// others out. Takes no memory.
 fn carry_each<A: Allocator + Copy, E: Entries<A>>(
     old: &RealmSettings<'_>,
     new: &RealmSettings<'_>,
@@ -146,7 +148,7 @@ fn carry_each<A: Allocator + Copy, E: Entries<A>>(
     }
 }
 
-/// The answered entry that makes way next, where there are more entries than so many.
+/// Finds the answered entry that makes way next, where there are more entries than so many.
 fn next_to_go<A: Allocator, E: Entries<A>>(entries: &E, realm: u16, most: u16) -> Option<u64>
     ensures some { IfSome result (λ ticket. (first_done (E.entries_of entries.now realm) ≡ Some ticket)
         × (most < length (E.entries_of entries.now realm))) }
@@ -169,7 +171,7 @@ fn take_out<A: Allocator, E: Entries<A>>(entries: &mut E, realm: u16, ticket: u6
     let _gone = entries.remove(realm, ticket);
 }
 
-/// Answered entries make way, in order of ticket, until there are so many at most.
+/// Takes answered entries out, in order of ticket, until there are so many at most.
 fn make_way<A: Allocator, E: Entries<A>>(entries: &mut E, realm: u16, most: u16)
     ensures entries { RealmBecomes realm
         (without_done (length (E.entries_of entries.old realm) - most) (E.entries_of entries.old realm))
@@ -205,7 +207,7 @@ fn keep_few<A: Allocator, E: Entries<A>>(
     }
 }
 
-/// The entries of a realm that stay, in the lanes that they had. Takes no memory.
+/// Keeps the entries of a realm that stay, in the lanes that they had. Takes no memory.
 pub(crate) fn carry_entries<A: Allocator + Copy, E: Entries<A>>(
     old: &RealmSettings<'_>,
     new: &RealmSettings<'_>,

@@ -40,7 +40,7 @@ pub(crate) fn stand_as_before(old: &RealmSettings<'_>, new: &RealmSettings<'_>) 
         && old.peer_count() <= new.peer_count()
 }
 
-/// Lanes and rests of which nothing is in use.
+/// Makes lanes in which no Identifier is in use, and the states of links that aren't marked dead.
 pub(crate) fn fresh_lanes<A: Allocator + Copy>(
     alloc: A,
     new: &RealmSettings<'_>,
@@ -53,7 +53,7 @@ pub(crate) fn fresh_lanes<A: Allocator + Copy>(
     Ok(FreshLanes { lanes, rests })
 }
 
-/// The link to the end of a place, by the `out` of a place.
+/// Returns the link to the end of a place, by the `out` of a place.
 pub(crate) fn link_to_end(settings: &RealmSettings<'_>, end: usize, out: u8) -> Link
     requires end { end < server_link_count settings.now + length settings.now.peers }
     requires out { out < length settings.now.realm.out }
@@ -72,7 +72,7 @@ pub(crate) fn link_to_end(settings: &RealmSettings<'_>, end: usize, out: u8) -> 
     }
 }
 
-/// The link of a place.
+/// Returns the link of a place.
 fn link_at(settings: &RealmSettings<'_>, place: usize) -> Link
     requires { place < link_count settings.now }
     ensures place { link_place settings.now result ≡ place }
@@ -83,7 +83,7 @@ fn link_at(settings: &RealmSettings<'_>, place: usize) -> Link
     link_to_end(settings, place / outs, (place % outs) as u8)
 }
 
-/// The place of the lane that a link had, if it was there and the same.
+/// Returns the place of the lane that a link had, if it was there and the same.
 fn place_before(old: &RealmSettings<'_>, new: &RealmSettings<'_>, link: Link) -> Option<usize>
     ensures some { IfSome result (λ place. IsPlaceBefore old.now new.now link place) }
     ensures within { IfSome result (λ place. place < link_count old.now) }
@@ -101,7 +101,7 @@ fn place_before(old: &RealmSettings<'_>, new: &RealmSettings<'_>, link: Link) ->
     }
 }
 
-/// A lane goes to another place, and a fresh one stands in its own.
+/// Moves a lane to another place, and puts a fresh one in its own.
 fn move_lane<A: Allocator>(before: &mut LazyLane<A>, after: &mut LazyLane<A>, tag: u32)
     ensures after { after.new ≡ with_tag tag before.old }
     ensures before { before.new ≡ after.old }
@@ -110,7 +110,7 @@ fn move_lane<A: Allocator>(before: &mut LazyLane<A>, after: &mut LazyLane<A>, ta
     after.retag(tag);
 }
 
-/// A place gets the lane that its link had, if it had one.
+/// Moves the lane that the link of a place had to the place, if it had one.
 fn fill_place<A: Allocator>(
     old: &RealmSettings<'_>,
     new: &RealmSettings<'_>,
@@ -133,7 +133,7 @@ fn fill_place<A: Allocator>(
     }
 }
 
-/// All lanes go to their places; a further link's is fresh.
+/// Moves all lanes to their places; a further link's is fresh.
 fn move_lanes<A: Allocator>(
     old: &RealmSettings<'_>,
     new: &RealmSettings<'_>,
@@ -165,7 +165,7 @@ fn is_renewed(old: &RealmSettings<'_>, new: &RealmSettings<'_>, peer: u16) -> bo
     }
 }
 
-/// The lanes of a peer begin anew, one for each `out`.
+/// Begins the lanes of a peer anew, one for each `out`.
 fn renew_lanes_of<A: Allocator + Copy>(
     alloc: A,
     old: &RealmSettings<'_>,
@@ -187,7 +187,7 @@ fn renew_lanes_of<A: Allocator + Copy>(
     }
 }
 
-/// The lanes of a peer whose `coa` isn't what it was begin anew: nothing waits there any more.
+/// Begins the lanes of a peer anew whose `coa` isn't what it was: nothing waits there any more.
 fn renew_lane<A: Allocator + Copy>(
     alloc: A,
     old: &RealmSettings<'_>,
@@ -205,7 +205,7 @@ fn renew_lane<A: Allocator + Copy>(
     }
 }
 
-/// The lanes of those peers whose `coa` isn't what it was begin anew.
+/// Begins the lanes of those peers anew whose `coa` isn't what it was.
 fn renew_lanes<A: Allocator + Copy>(
     alloc: A,
     old: &RealmSettings<'_>,
@@ -223,8 +223,8 @@ fn renew_lanes<A: Allocator + Copy>(
     }
 }
 
-/// Each lane stays where it is, those of peers begin anew whose `coa` isn't what it was, and further peers have
-/// one.
+/// Keeps each lane where it is, begins those of peers anew whose `coa` isn't what it was, and adds one for each
+/// further link of a peer.
 fn keep_lanes<A: Allocator + Copy>(
     old: &RealmSettings<'_>,
     new: &RealmSettings<'_>,
@@ -247,7 +247,7 @@ fn keep_lanes<A: Allocator + Copy>(
     add_lanes(new, numbers);
 }
 
-/// Each lane goes to its place among fresh ones, and so does how the servers' links rest.
+/// Moves each lane to its place among fresh ones, and also how the servers' links are marked dead.
 fn take_lanes<A: Allocator + Copy>(
     old: &RealmSettings<'_>,
     new: &RealmSettings<'_>,
@@ -271,8 +271,8 @@ fn take_lanes<A: Allocator + Copy>(
     take_rests(old, new, numbers, rests);
 }
 
-/// The lanes and the rests of a realm that goes on: those that stay at their places, or in fresh ones. Takes no
-/// memory.
+/// Carries the lanes of a realm that goes on over, and how its links are marked dead: those that stay at their
+/// places, or in fresh ones. Takes no memory.
 pub(crate) fn carry_lanes<A: Allocator + Copy>(
     old: &RealmSettings<'_>,
     new: &RealmSettings<'_>,

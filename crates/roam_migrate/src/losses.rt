@@ -36,7 +36,7 @@ struct Going {
     held: usize,
 }
 
-/// One more, where it counts.
+/// Adds one to a count, where it counts.
 fn more(count: usize, counts: bool) -> usize
     requires { count + 1 < 2 ^ 64 }
     ensures { result ≡ count + one_if counts }

@@ -1,10 +1,10 @@
 //! A realm that goes on under another part of a configuration.
 
-ghost use Rattle.std.specs.Prelude.{◌≡◌, ◌<◌, ◌≤◌, ◌^◌, IfOk, List, None, OnOk, length, map, slice_get};
+ghost use Rattle.std.specs.Prelude.{◌≡◌, ◌<◌, ◌≤◌, ◌^◌, IfOk, List, None, OnOk, length, map};
 ghost use Rattle.std.specs.Prelude.{true, vec_capacity};
 ghost use Rattle.roam_conf.specs.Parts.{shown_peer};
 ghost use Rattle.roam_pending.specs.PlainEntry.{PlainEntry};
-ghost use Rattle.roam_reload.specs.Reload.{peer_part};
+ghost use Rattle.roam_reload.specs.Reload.{IsKeptAt};
 ghost use Rattle.roam_realm.specs.RealmConfig.{RealmConfig, link_count};
 ghost use Rattle.roam_realm.specs.Sound.{IsSound, OthersStay, state_of};
 ghost use Rattle.roam_migrate.specs.Carrying.{AreChanged, HaveDistinctServers, IsReadyToCarry, StandsAsItIs};
@@ -45,8 +45,7 @@ fn push_lanes<A: Allocator + Copy>(
 /// Returns whether the table of a peer's number is another one, or isn't there any more.
 fn is_changed_at(old: &[Peer], new: &[Peer], i: usize) -> bool
     requires { i < length old.now }
-    ensures { Unless result (slice_get (map peer_part (map shown_peer new.now)) i
-        ≡ slice_get (map peer_part (map shown_peer old.now)) i) }
+    ensures { Unless result (IsKeptAt (map shown_peer old.now) (map shown_peer new.now) i) }
 {
     if i >= new.len() {
         return true;
@@ -67,8 +66,8 @@ fn note<A: Allocator>(numbers: &mut Vec<u16, A>, number: u16, counts: bool) -> R
     Ok(())
 }
 
-/// The peers whose tables aren't what they were, but for which of their Access-Requests need a Message-Authenticator:
-/// few at most changes.
+/// Lists the peers whose tables aren't what they were, except in which of their Access-Requests need a
+/// Message-Authenticator: few at most changes.
 pub fn changed_peers<A: Allocator + Copy>(
     alloc: A,
     old: &[Peer],
@@ -84,7 +83,7 @@ pub fn changed_peers<A: Allocator + Copy>(
     Ok(changed)
 }
 
-/// A lane for each further link.
+/// Adds a lane for each further link.
 pub(crate) fn add_lanes<A: Allocator + Copy>(
     settings: &RealmSettings<'_>,
     numbers: &mut RealmNumbers<A>,
@@ -141,7 +140,8 @@ pub fn reserve_carry<A: Allocator + Copy>(
     Ok(Some(fresh_lanes(numbers.alloc, new)?))
 }
 
-/// Returns whether neither the realm's table nor any peer's is another one, as far as its packets depend on them.
+/// Returns whether neither the realm's table nor any peer's is another one, as far as its packets depend on them, and
+/// no peer is new: one may have a longer prefix for an address of another.
 pub(crate) fn is_untouched(
     old: &RealmSettings<'_>,
     new: &RealmSettings<'_>,
@@ -151,6 +151,9 @@ pub(crate) fn is_untouched(
     ensures { result ≡ true → StandsAsItIs old.now new.now }
 {
     if !changed.is_empty() {
+        return false;
+    }
+    if old.peers().len() != new.peers().len() {
         return false;
     }
     match realm_difference(old.realm(), new.realm()) {
@@ -176,7 +179,7 @@ fn stands_as_it_is<A: Allocator>(
     }
 }
 
-/// A realm goes on that a change touches: entries, lanes, rests and sessions stay or go.
+/// Carries a realm over that a change touches: entries, lanes, links that are marked dead, and sessions stay or go.
 fn carry_touched<A: Allocator + Copy, E: Entries<A>>(
     old: &RealmSettings<'_>,
     new: &RealmSettings<'_>,
@@ -201,8 +204,9 @@ fn carry_touched<A: Allocator + Copy, E: Entries<A>>(
     carry_sessions(old, new, changed, numbers);
 }
 
-/// A realm goes on under other settings, with the memory that was taken: entries, lanes, rests and sessions stay or
-/// go, as `carried` says. `changed` are the peers whose tables are other ones. Takes no memory.
+/// Carries a realm over to other settings, with the memory that was taken: entries, lanes, links that are marked
+/// dead, and sessions stay or go, as `carried` says. `changed` are the peers whose tables are other ones. Takes no
+/// memory.
 pub fn carry_over<A: Allocator + Copy, E: Entries<A>>(
     old: &RealmSettings<'_>,
     new: &RealmSettings<'_>,
@@ -230,8 +234,9 @@ pub fn carry_over<A: Allocator + Copy, E: Entries<A>>(
     }
 }
 
-/// A realm that a change doesn't touch goes on as it stands, and where no peer is new it is sent what it would have
-/// been sent had nothing changed. This function does nothing.
+/// Shows that a realm that a change doesn't touch goes on as it stands, unless a further peer has a longer prefix for
+/// an address of another; and where no peer is new, it sends what it would have sent had nothing changed. This function
+/// does nothing.
 pub fn untouched_realms_go_on()
     ensures parts { UntouchedRealmsGoOn }
     ensures state { TakesNothing }
@@ -240,7 +245,7 @@ pub fn untouched_realms_go_on()
     ensures over_both { AsIfNothingChanged }
 {}
 
-/// Nothing comes by a change, and nothing goes whose sender and link stay. This function does nothing.
+/// States that nothing comes by a change, and nothing goes whose sender and link stay. This function does nothing.
 pub fn carried_takes_no_more()
     ensures adds_nothing { CarriedAddsNothing }
     ensures takes_no_more { CarriedTakesNoMore }

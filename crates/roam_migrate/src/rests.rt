@@ -14,7 +14,7 @@ use roam_realm::{RealmNumbers, RealmSettings, Rest};
 use roam_reload::has_same_servers;
 use std::alloc::Allocator;
 
-/// The rest of a place; awake, where there is none.
+/// Returns how the link of a place is marked dead, and a state that isn't marked dead where there is none.
 fn rest_at(rests: &[Rest], place: usize) -> Rest
     ensures { result ≡ slice_index_or rests.now place awake }
 {

@@ -22,7 +22,7 @@ fn tells_alike(old: &RealmSettings<'_>, new: &RealmSettings<'_>) -> bool
     }
 }
 
-/// The sessions of a peer are closed, if it went.
+/// Closes the sessions of a peer, if it went.
 fn close_if_gone<A: Allocator + Copy>(
     old: &RealmSettings<'_>,
     new: &RealmSettings<'_>,
@@ -38,7 +38,7 @@ fn close_if_gone<A: Allocator + Copy>(
     }
 }
 
-/// The sessions of peers that went are closed.
+/// Closes the sessions of peers that went.
 fn close_gone<A: Allocator + Copy>(
     old: &RealmSettings<'_>,
     new: &RealmSettings<'_>,
@@ -55,8 +55,8 @@ fn close_gone<A: Allocator + Copy>(
     }
 }
 
-/// The sessions that stay: those of peers that didn't go, the newest where fewer are kept; none where they are told
-/// otherwise now. Takes no memory.
+/// Keeps the sessions that stay: those of peers that didn't go, the newest where fewer are kept, and none where
+/// sessions are told otherwise now. Takes no memory.
 pub(crate) fn carry_sessions<A: Allocator + Copy>(
     old: &RealmSettings<'_>,
     new: &RealmSettings<'_>,

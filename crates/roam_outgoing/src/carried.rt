@@ -8,7 +8,7 @@ use roam_port::Outbox;
 use roam_wire::NoMemory;
 use std::alloc::Global;
 
-/// An outbox for so many ports, in which the packets wait that waited in another one: each port is tried again.
+/// Makes an outbox for so many ports, in which the packets wait that waited in another one: each port is tried again.
 pub(crate) fn outbox_for(
     alloc: Global,
     before: Outbox<Global>,

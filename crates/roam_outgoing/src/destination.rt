@@ -33,7 +33,7 @@ fn ipv6_of(high: u64, low: u64) -> Option<Address> {
 }
 
 impl Destination {
-    /// None is noted.
+    /// Makes the place where no destination is noted.
     pub fn none() -> Destination {
         Destination {
             state: AtomicU64::new(NONE),

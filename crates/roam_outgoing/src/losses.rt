@@ -32,7 +32,7 @@ fn add_to(count: &AtomicU64, more: u64) {
 }
 
 impl SharedLosses {
-    /// Nothing was lost.
+    /// Makes the counts where nothing was lost.
     pub fn new() -> SharedLosses {
         SharedLosses {
             full_ring: AtomicU64::new(0),
@@ -57,7 +57,7 @@ impl SharedLosses {
         }
     }
 
-    /// The count of a cause.
+    /// Returns the count of a cause.
     fn of(&self, cause: LossCause) -> &AtomicU64 {
         match cause {
             LossCause::FullRing => &self.full_ring,
@@ -67,7 +67,7 @@ impl SharedLosses {
         }
     }
 
-    /// So many more were lost.
+    /// Adds so many more that were lost.
     pub fn add(&self, losses: Losses) {
         add_to(&self.full_ring, losses.full_ring);
         add_to(&self.unreachable, losses.unreachable);
@@ -84,7 +84,7 @@ impl SharedLosses {
         }
     }
 
-    /// So many couldn't be told.
+    /// Gives back so many that couldn't be told.
     pub fn give_back(&self, cause: LossCause, count: u64) {
         add_to(self.of(cause), count);
     }

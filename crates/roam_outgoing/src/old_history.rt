@@ -68,7 +68,7 @@ fn take_empty(waiting: &mut Vec<Steps>) -> Option<Steps> {
 }
 
 impl OldHistory {
-    /// Nothing waits; there is room for the steps of so many shards.
+    /// Begins with nothing that waits, and with room for the steps of so many shards.
     pub fn new(alloc: Global, shards: u16) -> Result<OldHistory, AllocError> {
         Ok(OldHistory {
             waiting: Mutex::new(Vec::with_capacity(alloc, usize::from(shards))?),
@@ -112,7 +112,7 @@ impl OldHistory {
         }
     }
 
-    /// The steps that were let go of last, of those that wait.
+    /// Takes the steps that were dropped last, of those that wait.
     fn take<R: Wait>(&self, rt: &R) -> Option<Steps> {
         self.waiting.lock(rt).pop()
     }

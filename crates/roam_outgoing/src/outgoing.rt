@@ -80,7 +80,7 @@ impl<'s> Outgoing<'s> {
     ghost use Rattle.roam_port.specs.Outbox.{account_of, told_of};
     ghost use Rattle.roam_admission.specs.Shown.{shown_out};
 
-    /// The packets that still wait for room at a socket.
+    /// Returns the packets that still wait for room at a socket.
     pub fn into_outbox(self) -> Outbox<Global>
         ensures { result ≡ outbox_in self.entry }
     {
@@ -98,8 +98,8 @@ impl<'s> Outgoing<'s> {
         outbox
     }
 
-    /// The packets that wait in an outbox that another thread left, and those to come. What can be sent is sent. There
-    /// have to be as many ports as the outbox has, or what waits is lost.
+    /// Takes the packets that wait in an outbox that another thread left, and those to come. Sends what can be sent.
+    /// There have to be as many ports as the outbox has, or what waits is lost.
     pub fn new(
         alloc: Global,
         before: Outbox<Global>,
@@ -178,7 +178,7 @@ impl<'s> Outgoing<'s> {
         self.settle_any(sent);
     }
 
-    /// The same as `settle`, where anything was sent.
+    /// Does the same as `settle`, where anything was sent.
     fn settle_any(&mut self, sent: Sent)
         ensures { PutsEach [] (outbox_in self.old) (outbox_in self.new) }
     {

@@ -53,7 +53,7 @@ impl Outgoing<'_> {
         }
     }
 
-    /// The socket of this number may have room again: what stands aside for it is sent next.
+    /// Notes that the socket of this number may have room again: what stands aside for it is sent next.
     fn room_came(&mut self, number: usize)
         ensures { PutsEach [] (outbox_in self.old) (outbox_in self.new) }
     {

@@ -21,7 +21,7 @@ pub enum LogReader {
     Other,
 }
 
-/// The priority of a line in the journal (syslog(3)).
+/// Returns the priority of a line in the journal (syslog(3)).
 fn priority(level: Level) -> u8
     ensures { result ≡ heads.priority level }
 {
@@ -33,7 +33,7 @@ fn priority(level: Level) -> u8
     }
 }
 
-/// The word of a level.
+/// Returns the word of a level.
 fn level_word(level: Level) -> &'static str
     ensures { result.now ≡ heads.level_word level }
 {
@@ -59,7 +59,7 @@ impl Display for JournalHead {
     }
 }
 
-/// The moment, in milliseconds; none where the clock fails, or is past what has a date.
+/// Returns the moment, in milliseconds, or `None` where the clock fails, or is past what has a date.
 fn moment<R: Clock>(rt: &R) -> Option<Timestamp> {
     let since = rt.since_1970().ok()?;
     let milliseconds = i64::try_from(since.as_millis()).ok()?;

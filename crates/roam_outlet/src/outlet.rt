@@ -31,7 +31,7 @@ const LOOKS: u32 = 100;
 
 const BETWEEN_LOOKS: u64 = 10;
 
-/// The octets of a message of one line or several, each behind the head.
+/// Makes the octets of a message of one line or several, each behind the head.
 fn octets_of<D: Display>(alloc: Global, head: &str, message: &D) -> io::Result<Vec<u8>> {
     let mut text = Vec::with_capacity(alloc, ONE_MORE)?;
     write!(text, "{message}")?;
@@ -53,7 +53,7 @@ pub struct Outlet {
 }
 
 impl Outlet {
-    /// Nothing waits.
+    /// Makes an outlet where nothing waits.
     pub fn new(alloc: Global, reader: LogReader) -> Result<Outlet, AllocError> {
         Ok(Outlet {
             alloc,
@@ -68,7 +68,7 @@ impl Outlet {
         })
     }
 
-    /// Room for what is taken at once.
+    /// Takes room for what is taken at once.
     pub fn room(alloc: Global) -> Result<Vec<u8>, AllocError> {
         Vec::with_capacity(alloc, ROOM)
     }
@@ -119,7 +119,7 @@ impl Outlet {
         self.waiting.lock(rt).take(text);
     }
 
-    /// So many lines more of those in hand are written.
+    /// Notes that so many lines more of those in hand are written.
     fn note_written<R: Wait>(&self, rt: &R, lines: u64) {
         self.waiting.lock(rt).note_written(lines);
     }

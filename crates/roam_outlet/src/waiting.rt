@@ -83,7 +83,7 @@ impl Waiting {
         self.in_hand = lines_in(text.as_slice());
     }
 
-    /// So many lines more of those in hand are written.
+    /// Notes that so many lines more of those in hand are written.
     pub fn note_written(&mut self, lines: u64)
         ensures hand { self.new.in_hand ≡ self.old.in_hand - lines }
         ensures text { self.new.text ≡ self.old.text }

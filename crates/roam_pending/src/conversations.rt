@@ -14,7 +14,7 @@ use roam_wire::attribute_type::STATE;
 use roam_wire::code::ACCESS_CHALLENGE;
 use std::alloc::Allocator;
 
-/// The State of a held reply: the first one of an Access-Challenge (RFC 2865, section 5.24). One pass.
+/// Returns the State of a held reply: the first one of an Access-Challenge (RFC 2865, section 5.24). Takes one pass.
 #[tactic(auto, unfolding(crate::specs::Conversations::challenge_state))]
 pub fn challenge_state(reply: &[u8]) -> Option<&[u8]>
     ensures { option_map (λ state. state.now) result ≡ challenge_state reply.entry.now }
@@ -32,7 +32,7 @@ pub fn challenge_state(reply: &[u8]) -> Option<&[u8]>
 }
 
 impl<A: Allocator> Standing<A> {
-    /// The State that an entry keeps which stands so: that of the Challenge that came from a link.
+    /// Returns the State that an entry keeps which stands so: that of the Challenge that came from a link.
     pub fn kept_state(&self) -> Option<&[u8]>
         ensures { option_map (λ state. state.now) result ≡ kept_state (shown_standing self.entry.now) }
     {
@@ -45,7 +45,7 @@ impl<A: Allocator> Standing<A> {
         }
     }
 
-    /// The link from which the reply came that is held, if it came from one.
+    /// Returns the link from which the reply came that is held, if it came from one.
     pub fn kept_link(&self) -> Option<Link>
         ensures { result ≡ kept_link (shown_standing self.now) }
     {
@@ -69,7 +69,7 @@ pub fn is_round<A: Allocator>(entry: &Entry<A>, peer: u16, state: &[u8]) -> bool
     }
 }
 
-/// This entry, where it keeps a peer's round of this State, else the last before it.
+/// Returns this entry, where it keeps a peer's round of this State, else the last before it.
 fn later<'a, A: Allocator>(
     entry: &'a Entry<A>,
     peer: u16,
@@ -85,7 +85,7 @@ fn later<'a, A: Allocator>(
     }
 }
 
-/// The last entry that keeps a peer's round of this State.
+/// Finds the last entry that keeps a peer's round of this State.
 pub(crate) fn round_in<'a, A: Allocator>(
     entries: &'a [Entry<A>],
     peer: u16,

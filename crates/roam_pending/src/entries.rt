@@ -42,32 +42,33 @@ pub trait Entries<A: Allocator> {
         ensures len { result ≡ length (entries_of self.now realm) }
         ensures list { IsEntryList (entries_of self.now realm) };
 
-    /// The entry of a ticket.
+    /// Finds the entry of a ticket.
     fn find_ticket(&self, realm: u16, ticket: u64) -> Option<&Entry<A>>
         ensures found { seen result ≡ find_ticket ticket (entries_of self.now realm) }
         ensures list { IsEntryList (entries_of self.now realm) };
 
-    /// The entry of a key.
+    /// Finds the entry of a key.
     fn find_client(&self, realm: u16, key: &Key) -> Option<&Entry<A>>
         ensures found { seen result ≡ find_client key.now (entries_of self.now realm) }
         ensures list { IsEntryList (entries_of self.now realm) };
 
-    /// The ticket of the done entry of least ticket, besides one that counts as gone.
+    /// Finds the ticket of the done entry of least ticket, besides one that counts as gone.
     fn first_done(&self, realm: u16, except: Option<u64>) -> Option<u64>
         ensures { result ≡ first_done (besides except (entries_of self.now realm)) };
 
-    /// The entry that keeps a peer's round of a conversation, by its State: of several the last.
+    /// Finds the entry that keeps a peer's round of a conversation, by its State: of several the last.
     fn find_round(&self, realm: u16, peer: u16, state: &[u8]) -> Option<&Entry<A>>
         ensures found { seen result ≡ last_round peer state.now (entries_of self.now realm) }
         ensures list { IsEntryList (entries_of self.now realm) };
 
-    /// Of the realm's entries whose deadline is at most `now`, the one of least deadline and ticket,
-    /// or where `last` is one of them, the next one after it.
+    /// Finds the entry of least deadline and ticket among the realm's entries whose deadline is at most `now`. Where
+    /// `last` is one of them, finds the next one after it.
     fn due_after(&self, realm: u16, now: u64, last: Option<Due>) -> Option<Due>
         ensures found { result ≡ due_after now last (entries_of self.now realm) }
         ensures list { IsEntryList (entries_of self.now realm) };
 
-    /// The first of all entries of the realm after the last one, in order of deadline and ticket, whatever the moment.
+    /// Finds the first of all entries of the realm after the last one, in order of deadline and ticket, whatever the
+    /// moment.
     fn next_after(&self, realm: u16, last: Option<Due>) -> Option<Due>
         ensures next { IsNextAfter last (entries_of self.now realm) result }
         ensures list { IsEntryList (entries_of self.now realm) };

@@ -74,8 +74,8 @@ pub enum Standing<A: Allocator> {
 }
 
 impl<A: Allocator> Standing<A> {
-    /// The forwarded packet was sent once more: one send fewer is left, and the wait lasts until the
-    /// deadline. What is done stays as it is.
+    /// Notes that the forwarded packet was sent once more: one send fewer is left, and the wait lasts until the
+    /// deadline. An entry that is done stays as it is.
     pub fn wait_on(&mut self, deadline: u64)
         ensures { shown_standing self.new ≡ waits_on deadline (shown_standing self.old) }
     {

@@ -9,7 +9,7 @@ ghost use Rattle.roam_pending.specs.ListLaws.{OneFewer, OneMore, OneOfAKey, PutB
 ghost use Rattle.roam_pending.specs.ListLaws.{PutLater, PutTwice, RemovalKeepsList, RemovalKeepsOthers, RemovedIsGone};
 ghost use Rattle.roam_pending.specs.ListLaws.{RestIsDue, SameKeyIsEqual, TakenOut, UsedIsFound};
 
-/// Each change leaves a list in order of ticket with distinct keys.
+/// States that each change leaves a list in order of ticket with distinct keys.
 pub fn changes_keep_the_list()
     ensures new { NewKeepsList }
     ensures change { ChangeKeepsList }
@@ -27,14 +27,15 @@ pub fn changes_by_ticket()
     ensures more { OneMore }
 {}
 
-/// Changes one after the other: an entry is taken out and put back.
+/// States what changes one after the other leave: an entry that is taken out and put back, one that is put twice, and
+/// one that is put and taken out.
 pub fn changes_in_a_row()
     ensures put_back { PutBack }
     ensures put_twice { PutTwice }
     ensures taken_out { TakenOut }
 {}
 
-/// Changes of one realm, one after the other, leave every other realm as it was.
+/// States that changes of one realm, one after the other, leave every other realm as it was.
 pub fn changes_of_one_realm()
     ensures { OneChangeOfTwo }
 {}
@@ -48,14 +49,14 @@ pub fn found_entries()
     ensures done { FoundDone }
 {}
 
-/// The entries without a key are all but one.
+/// States that the entries without a key are all except the one that is found by it.
 pub fn one_entry_of_a_key()
     ensures one { OneOfAKey }
     ensures none { NoneOfAKey }
     ensures gone { KeyIsGone }
 {}
 
-/// An Identifier is in use toward a link just where an entry is found there by it.
+/// States that an Identifier is in use toward a link just where an entry is found there by it.
 pub fn used_identifiers()
     ensures { UsedIsFound }
 {}
@@ -66,14 +67,14 @@ pub fn due_entries()
     ensures reached { DueIsReached }
 {}
 
-/// Taking the least due entry until none is left goes through the list of the due ones: the rest of
-/// the list is due once the least is taken out, and what is put back with a later deadline isn't.
+/// States that taking the least due entry until none is left goes through the list of the due ones: the rest of the
+/// list is due once the least is taken out, and an entry that is put back with a later deadline isn't.
 pub fn least_due_first()
     ensures taken { RestIsDue }
     ensures put_back { PutLater }
 {}
 
-/// Asking for the next due entry after the last one goes through the list of the due ones.
+/// States that asking for the next due entry after the last one goes through the list of the due ones.
 pub fn due_one_after_the_other()
     ensures { NextDue }
 {}

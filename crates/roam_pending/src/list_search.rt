@@ -25,7 +25,7 @@ pub(crate) fn count_below<A: Allocator>(entries: &[Entry<A>], ticket: u64) -> us
     entries.iter().filter(|entry| entry.ticket < ticket).count()
 }
 
-/// The place of a ticket, where entries stand in order.
+/// Finds the place of a ticket, where entries stand in order.
 pub(crate) fn place_of<A: Allocator>(entries: &[Entry<A>], ticket: u64) -> Option<usize>
     requires { IsInOrder (shown_all entries.now) }
     ensures none { MatchOption result (find_ticket ticket (shown_all entries.now) ≡ None)
@@ -40,7 +40,7 @@ pub(crate) fn place_of<A: Allocator>(entries: &[Entry<A>], ticket: u64) -> Optio
     }
 }
 
-/// Until when an entry stands as it does, in milliseconds.
+/// Returns the moment until which an entry stands as it does, in milliseconds.
 pub(crate) fn deadline_of<A: Allocator>(standing: &Standing<A>) -> u64
     ensures { result ≡ plain_deadline_of (shown_standing standing.now) }
 {
@@ -77,7 +77,7 @@ fn is_done_besides<A: Allocator>(except: Option<u64>, entry: &Entry<A>) -> bool
     is_another(except, entry.ticket) && is_answered(&entry.standing)
 }
 
-/// The first entry of a key.
+/// Finds the first entry of a key.
 pub(crate) fn client_in<'a, A: Allocator>(
     entries: &'a [Entry<A>],
     key: &Key,
@@ -92,7 +92,7 @@ pub(crate) fn client_in<'a, A: Allocator>(
     None
 }
 
-/// The ticket of the first entry that was answered, besides one that counts as gone.
+/// Finds the ticket of the first entry that was answered, besides one that counts as gone.
 pub(crate) fn done_in<A: Allocator>(entries: &[Entry<A>], except: Option<u64>) -> Option<u64>
     ensures { result ≡ plain_first_done (besides except (shown_all entries.now)) }
 {
@@ -136,7 +136,7 @@ fn due_alone<A: Allocator>(entry: &Entry<A>, now: u64, last: Option<Due>) -> Opt
     }
 }
 
-/// The one that comes before the other, of what there is.
+/// Returns the one that comes before the other, of what there is.
 fn earlier(first: Option<Due>, second: Option<Due>) -> Option<Due>
     ensures { result ≡ plain_earlier first second }
 {
@@ -153,7 +153,7 @@ fn earlier(first: Option<Due>, second: Option<Due>) -> Option<Due>
     }
 }
 
-/// The first due entry, or the next one after the last.
+/// Finds the first due entry, or the next one after the last.
 pub(crate) fn due_in<A: Allocator>(entries: &[Entry<A>], now: u64, last: Option<Due>) -> Option<Due>
     ensures { result ≡ due_after now last (shown_all entries.now) }
 {
@@ -179,7 +179,7 @@ fn due_past<A: Allocator>(entry: &Entry<A>, last: Option<Due>) -> Option<Due>
     }
 }
 
-/// The first entry of all after the last one, by deadline and ticket.
+/// Finds the first entry of all after the last one, by deadline and ticket.
 pub(crate) fn next_in<A: Allocator>(entries: &[Entry<A>], last: Option<Due>) -> Option<Due>
     ensures { IsNextAfter last (shown_all entries.now) result }
 {

@@ -49,7 +49,7 @@ impl<A: Allocator> Model for Pending<A> {
 }
 
 impl<A: Allocator> Pending<A> {
-    /// No entries, for the realm of this index. Takes no memory.
+    /// Makes the list without entries, for the realm of this index. Takes no memory.
     pub fn new(alloc: A, realm: u16) -> Pending<A>
         ensures realm { result.realm ≡ realm }
         ensures entries { result.entries ≡ [] }
@@ -60,7 +60,7 @@ impl<A: Allocator> Pending<A> {
         }
     }
 
-    /// The realm's index.
+    /// Returns the realm's index.
     pub fn realm(&self) -> u16
         ensures { result ≡ self.now.realm }
     {
@@ -82,7 +82,7 @@ impl<A: Allocator> Pending<A> {
         self.entries.is_empty()
     }
 
-    /// The entry at a place, in order of ticket, from 0 on.
+    /// Returns the entry at a place, in order of ticket, from 0 on.
     pub fn at(&self, place: usize) -> Option<&Entry<A>>
         ensures found { seen result ≡ slice_get self.now.entries place }
         ensures list { IsEntryList self.now.entries }
@@ -90,7 +90,7 @@ impl<A: Allocator> Pending<A> {
         self.entries.get(place)
     }
 
-    /// The entry of a key.
+    /// Finds the entry of a key.
     pub fn find_client(&self, key: &Key) -> Option<&Entry<A>>
         ensures found { seen result ≡ find_client key.now self.now.entries }
         ensures list { IsEntryList self.now.entries }
@@ -98,14 +98,14 @@ impl<A: Allocator> Pending<A> {
         client_in(&self.entries, key)
     }
 
-    /// The ticket of the done entry of least ticket, besides one that counts as gone.
+    /// Finds the ticket of the done entry of least ticket, besides one that counts as gone.
     pub fn first_done(&self, except: Option<u64>) -> Option<u64>
         ensures { result ≡ first_done (besides except self.now.entries) }
     {
         done_in(&self.entries, except)
     }
 
-    /// The last entry that keeps a peer's round of this State.
+    /// Finds the last entry that keeps a peer's round of this State.
     pub fn find_round(&self, peer: u16, state: &[u8]) -> Option<&Entry<A>>
         ensures found { seen result ≡ last_round peer state.now self.now.entries }
         ensures list { IsEntryList self.now.entries }
@@ -113,7 +113,7 @@ impl<A: Allocator> Pending<A> {
         round_in(&self.entries, peer, state)
     }
 
-    /// The entry of a ticket.
+    /// Finds the entry of a ticket.
     pub fn find_ticket(&self, ticket: u64) -> Option<&Entry<A>>
         ensures found { seen result ≡ find_ticket ticket self.now.entries }
         ensures list { IsEntryList self.now.entries }
@@ -124,8 +124,8 @@ impl<A: Allocator> Pending<A> {
         }
     }
 
-    /// Of the entries whose deadline is at most `now`, the one of least deadline and ticket, or where
-    /// `last` is one of them, the next one after it.
+    /// Finds the entry of least deadline and ticket among the entries whose deadline is at most `now`. Where `last`
+    /// is one of them, finds the next one after it.
     pub fn due_after(&self, now: u64, last: Option<Due>) -> Option<Due>
         ensures found { result ≡ due_after now last self.now.entries }
         ensures list { IsEntryList self.now.entries }
@@ -133,7 +133,7 @@ impl<A: Allocator> Pending<A> {
         due_in(&self.entries, now, last)
     }
 
-    /// Of the entries whose deadline is at most `now`, the one of least deadline and ticket.
+    /// Finds the entry of least deadline and ticket among the entries whose deadline is at most `now`.
     pub fn due(&self, now: u64) -> Option<Due>
         ensures found { result ≡ due_after now None self.now.entries }
         ensures list { IsEntryList self.now.entries }
@@ -141,7 +141,7 @@ impl<A: Allocator> Pending<A> {
         self.due_after(now, None)
     }
 
-    /// The first of all entries after the last one, in order of deadline and ticket, whatever the moment.
+    /// Finds the first of all entries after the last one, in order of deadline and ticket, whatever the moment.
     pub fn next_after(&self, last: Option<Due>) -> Option<Due>
         ensures next { IsNextAfter last self.now.entries result }
         ensures list { IsEntryList self.now.entries }

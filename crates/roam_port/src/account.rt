@@ -17,7 +17,7 @@ pub struct Account {
 }
 
 impl Account {
-    /// Nothing was put.
+    /// Makes the account in which nothing was put.
     pub fn none() -> Account
         ensures { result ≡ none_put }
     {
@@ -28,14 +28,14 @@ impl Account {
         }
     }
 
-    /// One more was put.
+    /// Counts one more packet that was put.
     pub(crate) fn count_put(&mut self)
         ensures { self.new ≡ after_put self.old }
     {
         self.put = self.put.saturating_add(1);
     }
 
-    /// One more was put, and is lost since its port's share is full.
+    /// Counts one more packet that was put, and is lost since its port's share is full.
     pub(crate) fn count_loss(&mut self)
         ensures { self.new ≡ after_loss self.old }
     {
@@ -43,7 +43,7 @@ impl Account {
         self.losses.count(LossCause::FullRing);
     }
 
-    /// A packet was handed to its port, which answered so.
+    /// Counts a packet that was handed to its port, by what the port answered.
     pub(crate) fn count_answer(&mut self, answer: Result<(), SendFault>)
         ensures { self.new ≡ accounted self.old answer }
     {

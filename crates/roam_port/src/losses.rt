@@ -26,7 +26,7 @@ pub struct Losses {
 }
 
 impl Losses {
-    /// No packet was lost.
+    /// Makes the count in which no packet was lost.
     pub fn none() -> Losses
         ensures { result ≡ no_losses }
     {

@@ -51,7 +51,7 @@ impl<A: Allocator + Copy> Outbox<A> {
     ghost use Rattle.roam_port.specs.Outbox.{port_count};
     ghost use Rattle.roam_port.specs.Queues.{AreMore, IsUnused};
 
-    /// An outbox for so many ports, in which nothing waits, and into which nothing was put.
+    /// Makes an outbox for so many ports, in which nothing waits, and into which nothing was put.
     pub fn new(alloc: A, ports: usize) -> Result<Outbox<A>, NoMemory>
         ensures ports { IfOk result (λ o. port_count o ≡ ports) }
         ensures unused { IfOk result (λ o. AllByRecursion (IsUnused (share_of ports)) o.queues.items) }
@@ -233,7 +233,8 @@ impl<A: Allocator> Outbox<A> {
         self.listed.push_reserved(socket);
     }
 
-    /// The port of this number may have room again: what stands aside for it is handed to it at the next sending.
+    /// Notes that the port of this number may have room again: what stands aside for it is handed to it at the next
+    /// sending.
     pub fn try_again(&mut self, socket: usize)
         ensures again { IsTriedAgain socket self.old self.new }
         ensures count { port_count self.new ≡ port_count self.old }
@@ -243,7 +244,7 @@ impl<A: Allocator> Outbox<A> {
         }
     }
 
-    /// For tests: what became of all packets that were put so far.
+    /// For tests. Returns what became of all packets that were put so far.
     pub fn account(&self) -> Account
         ensures { result ≡ account_of self.now }
     {

@@ -49,7 +49,7 @@ impl<A: Allocator> PortQueue<A> {
     ghost use Rattle.roam_port.specs.PortQueue.{Drains, HandsOldest, after_put, is_aside, is_idle, is_listed};
     ghost use Rattle.roam_port.specs.Queues.{IsListedAgain};
 
-    /// A queue in which none waits, for so many packets.
+    /// Makes a queue in which none waits, for so many packets.
     pub fn new(alloc: A, share: usize) -> Result<PortQueue<A>, NoMemory>
         ensures waiting { IfOk result (λ q. q.waiting.items ≡ []) }
         ensures share { IfOk result (λ q. q.share ≡ share) }
@@ -83,7 +83,7 @@ impl<A: Allocator> PortQueue<A> {
         matches!(self.standing, Standing::Aside)
     }
 
-    /// The port may have room again: what stands aside is listed.
+    /// Notes that the port may have room again: lists what stands aside.
     pub fn list_again(&mut self)
         requires { self.old.standing ≡ Standing.Aside }
         ensures { IsListedAgain self.old self.new }

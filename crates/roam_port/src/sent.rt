@@ -14,7 +14,7 @@ pub struct Sent {
 }
 
 impl Sent {
-    /// Nothing was sent.
+    /// Makes the count in which nothing was sent.
     pub fn none() -> Sent
         ensures { result ≡ none_sent }
     {
@@ -24,7 +24,7 @@ impl Sent {
         }
     }
 
-    /// This, and so much more.
+    /// Adds so much more to this.
     pub fn and(self, more: Sent) -> Sent
         ensures { result ≡ sent_after self more }
     {

@@ -14,7 +14,7 @@ use roam_conf::{Config, Endpoint, Place, Realm};
 /// The number of places that have one number at most.
 pub const MOST_OF_A_NUMBER: u16 = 16;
 
-/// The number of a place's sockets.
+/// Returns the number of a place's sockets.
 pub fn socket_of(place: Place) -> usize
     ensures { result ≡ socket_number place }
 {
@@ -37,7 +37,7 @@ pub fn nth_of(place: Place) -> usize
     }
 }
 
-/// The place of this number, and which of these it is.
+/// Returns the place whose sockets have this number, and which of them is the `nth`.
 pub fn place_of(socket: usize, nth: u16) -> Place
     requires { socket < 131072 }
     ensures number { socket_number result ≡ socket }
@@ -98,7 +98,7 @@ pub fn socket_count(config: &Config) -> usize
     config.auth.len() + config.acct.len() + sockets_of_all(config.realms.as_slice())
 }
 
-/// The endpoint of a place in a list, if there is one.
+/// Returns the endpoint of a place in a list, if there is one.
 fn endpoint_at(own: &[Endpoint], nth: u16) -> Option<Endpoint>
     ensures { result ≡ slice_get own.now nth }
 {
@@ -145,9 +145,9 @@ pub fn endpoint_of(config: &Config, place: Place) -> Option<Endpoint>
     }
 }
 
-/// The worker that hears the socket of a place, of so many workers: a realm's that of its shard; `auth` the first and
-/// `acct` the next, several of one kind in turn from there on. With `spread` these stand here as the first worker's,
-/// and each worker has such ones of its own.
+/// Returns the worker, of so many workers, that hears the socket of a place: a realm's that of its shard; `auth` the
+/// first and `acct` the next, several of one kind in turn from there on. With `spread` these stand here as the first
+/// worker's, and each worker has such ones of its own.
 pub fn worker_of(place: Place, workers: usize, is_spread: bool) -> usize
     requires { 1 ≤ workers }
     ensures value { result ≡ worker_number is_spread place workers }

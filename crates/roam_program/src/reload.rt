@@ -95,7 +95,7 @@ fn text_of(alloc: Global, fault: Fault<'_>, lines: &Lines) -> Vec<u8> {
     text
 }
 
-/// A configuration laid out by the one that is served, or what is said of why it isn't.
+/// Lays a configuration out by the one that is served, or returns the words that say why it isn't.
 fn laid_out(alloc: Global, old: &Config, new: Config) -> Result<Config, Vec<u8>> {
     match following_config(alloc, old, new) {
         Ok(config) => Ok(config),
@@ -134,7 +134,7 @@ fn laid_out_with_order(
     }
 }
 
-/// The configuration of a text, laid out by the one that is served, and its settings.
+/// Reads the configuration of a text, laid out by the one that is served, and its settings.
 fn read(alloc: Global, file: &TextFile<'_>, old: &Config) -> Result<Stated, Vec<u8>> {
     let text = file.text.as_str();
     match read_config_and_settings(alloc, text) {
@@ -153,7 +153,7 @@ fn read(alloc: Global, file: &TextFile<'_>, old: &Config) -> Result<Stated, Vec<
     }
 }
 
-/// The configuration of a file that is to follow another one, or what is said of why it may not.
+/// Reads the configuration of a file that is to follow another one, or returns the words that say why it may not.
 fn following<R: Files + AllocGlobal>(
     rt: &R,
     file: &TextFile<'_>,

@@ -29,7 +29,7 @@ use std::sync::Wait;
 use std::thread::Threads;
 use std::time::Clock;
 
-/// The control socket, where one is wanted.
+/// Binds the control socket, where one is wanted.
 fn control_socket<R: Files + Net + Clock>(
     rt: &R,
     config: &Config,
@@ -80,7 +80,8 @@ fn serve_watched<
     serve(rt, rt.alloc(), config, options, source)
 }
 
-/// The same where somebody may ask, once there is the control socket that is wanted.
+/// Serves a configuration, once there is the control socket that is wanted. The server counts what it does, since
+/// somebody may ask for the counts.
 fn serve_asked<
     R: Files + AllocGlobal + KeepsFiles + Threads + Wait + Clock + Net + RandomSource + Log + Sync,
 >(
@@ -142,7 +143,7 @@ fn serve_by<
     }
 }
 
-/// The configuration with the seed that it is served with: its own, or one that is drawn.
+/// Gives the configuration the seed that it is served with: its own, or one that is drawn.
 fn to_serve<R: RandomSource>(
     rt: &R,
     config: Config,

@@ -12,7 +12,7 @@ use std::alloc::{AllocError, Global};
 use std::io::ErrorKind;
 use std::rt::Files;
 
-/// The file of the settings, where there is one.
+/// Returns the file of the settings, where there is one.
 fn state_of(alloc: Global, settings: &Settings) -> Result<Option<StateFile>, AllocError> {
     match &settings.state {
         Some(path) => Ok(Some(StateFile {
@@ -57,7 +57,7 @@ pub(crate) struct StateFiles {
 }
 
 impl StateFiles {
-    /// It has none.
+    /// Begins with no files.
     pub(crate) fn new(alloc: Global) -> StateFiles {
         StateFiles {
             own: Vec::new(alloc),
@@ -103,7 +103,8 @@ impl StateFiles {
         }
     }
 
-    /// The same, where a file of ledgers can stand at the path.
+    /// Has the file of a path be this server's until it ends, where a file of session tables can stand at the path.
+    /// Where the system gives no lock there it isn't.
     ///
     /// # Errors
     ///

@@ -7,7 +7,7 @@ use roam_serve::{StationForm, StationKey};
 use std::alloc::{AllocError, Global};
 use std::rt::Files;
 
-/// The path of the key's file: it stands in the folder of the configuration.
+/// Makes the path of the key's file: it stands in the folder of the configuration.
 fn path_beside(alloc: Global, path: &str) -> Result<String, AllocError> {
     let folder = match path.rsplit_once('/') {
         Some((folder, _)) => folder,
@@ -16,7 +16,8 @@ fn path_beside(alloc: Global, path: &str) -> Result<String, AllocError> {
     format!(in alloc; "{folder}/station.key")
 }
 
-/// The key beside a configuration, where one can be read: 16 to 64 octets, white space at both ends left out.
+/// Reads the key beside a configuration, where one can be read: 16 to 64 octets, without the white space at both
+/// ends.
 fn key_beside<R: Files + AllocGlobal>(rt: &R, path: &str) -> Option<StationKey> {
     let Ok(path) = path_beside(rt.alloc(), path) else {
         return None;
@@ -43,7 +44,8 @@ pub(crate) fn stations_of<R: Files + AllocGlobal>(
     }
 }
 
-/// The same, and it is told where they are hidden.
+/// Returns how lines have a station, by the settings of the configuration of this path: where a hash is wanted and no
+/// key can be read, not at all. Tells where stations are hidden.
 pub(crate) fn told_stations<R: Files + AllocGlobal + Log>(
     rt: &R,
     path: &str,

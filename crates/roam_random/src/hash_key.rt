@@ -16,7 +16,7 @@ pub struct HashKey {
 }
 
 impl HashKey {
-    /// The key of these octets: of a hash, they come before what is hashed.
+    /// Makes a hash key of these octets: in a hash, they come before what is hashed.
     pub fn new(octets: [u8; 16]) -> HashKey
         ensures { result ≡ keyed octets }
     {
@@ -25,7 +25,7 @@ impl HashKey {
         HashKey { begun }
     }
 
-    /// The hash of a number, in two octets with the low one first, and of what follows it.
+    /// Returns the hash of a number, in two octets with the low one first, and of the octets that follow it.
     pub fn hash_of(&self, number: u16, octets: &[u8]) -> u64
         ensures { result ≡ hash_of self.now number octets.now }
     {

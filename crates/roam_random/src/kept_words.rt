@@ -58,7 +58,7 @@ fn put_if_elsewhere(
 }
 
 impl KeptWords {
-    /// None are kept yet.
+    /// Begins with no words kept.
     pub fn new() -> KeptWords {
         let seed = [0; 32];
         KeptWords {
@@ -67,7 +67,8 @@ impl KeptWords {
         }
     }
 
-    /// The same as `request_authenticator`. Words are made where those that are kept are others.
+    /// Returns the same as `request_authenticator`. Makes words anew where the kept ones are of another seed, stream
+    /// or position.
     pub fn request_authenticator(&mut self, seed: [u8; 32], stream: u64, position: u128) -> [u8; 16]
         ensures { result ≡ request_authenticator_at seed stream position }
     {

@@ -3,18 +3,18 @@
 ghost use Rattle.roam_random.specs.Laws.{AuthenticatorsAreOctets, AuthenticatorsHave16Octets};
 ghost use Rattle.roam_random.specs.Laws.{NextPositionsAreInTheStream, PositionsCountModuloTheStream};
 
-/// A Request Authenticator has 16 octets, each of them a number below 256.
+/// States that a Request Authenticator has 16 octets, each of them a number below 256.
 pub fn authenticators_have_16_octets()
     ensures size { AuthenticatorsHave16Octets }
     ensures octets { AuthenticatorsAreOctets }
 {}
 
-/// The next position is below 2^68, whatever the position.
+/// States that the next position is below 2^68, for each position.
 pub fn next_positions_are_in_the_stream()
     ensures { NextPositionsAreInTheStream }
 {}
 
-/// Positions that are equal modulo 2^68 have the same words, and the same next position.
+/// States that positions that are equal modulo 2^68 have the same words, and the same next position.
 pub fn positions_count_modulo_the_stream()
     ensures { PositionsCountModuloTheStream }
 {}

@@ -20,7 +20,7 @@ pub(crate) fn put_at(generator: &mut ChaCha20Rng, stream: u64, position: u128)
     generator.set_word_pos(position);
 }
 
-/// The next four words of a generator, each with its low octet first.
+/// Takes the next four words of a generator, each with its low octet first.
 pub(crate) fn next_four(generator: &mut ChaCha20Rng) -> [u8; 16]
     ensures words { (seed : List ℕ) (stream position : ℕ) → generator.old ≡ standing_at seed stream position
         → result ≡ request_authenticator_at seed stream position }
@@ -36,9 +36,9 @@ pub(crate) fn next_four(generator: &mut ChaCha20Rng) -> [u8; 16]
     ]
 }
 
-/// The Request Authenticator of a position in a stream: the four words from there on, each with its
-/// low octet first. The seed is the key of ChaCha20, and the stream's number its nonce. A position
-/// counts modulo 2^68. Takes no memory.
+/// Returns the Request Authenticator of a position in a stream: the four words from there on, each with its low octet
+/// first. The seed is the key of ChaCha20, and the stream's number its nonce. A position counts modulo 2^68. Takes no
+/// memory.
 pub fn request_authenticator(seed: [u8; 32], stream: u64, position: u128) -> [u8; 16]
     ensures { result ≡ request_authenticator_at seed stream position }
 {

@@ -1,6 +1,7 @@
 pub mod LaneLemmas
 pub mod LinkLaneLemmas
 pub mod LookingLemmas
+pub mod OrderLemmas
 pub mod SavingLemmas
 pub mod ShapingLemmas
 pub mod ShortNameLemmas

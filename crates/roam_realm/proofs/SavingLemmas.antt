@@ -9,7 +9,7 @@ use Rattle.std.specs.Option.{ForSome, option_map_or}
 use Rattle.std.specs.Prelude.{Err, Ok, OnOk, Result, if◌then◌else◌, nat_le, option_map}
 use Rattle.std.specs.Str.{bytes_eq}
 use Rattle.roam_conf.specs.Config.{PeerView}
-use Rattle.roam_conf.specs.Duplicates.{has_duplicate_peer, has_pair, nas_texts, same_peer}
+use Rattle.roam_conf.specs.Duplicates.{has_duplicate_peer, has_duplicate_prefix, has_pair, nas_texts, same_peer}
 use Rattle.roam_conf.specs.Lookup.{first_place}
 use Rattle.roam_sessions.specs.Ledgers.{SavedSession}
 use Rattle.roam_reload.proofs.KeptLemmas.{values_itself}
@@ -51,12 +51,12 @@ abbrev is_it : List ℕ → PeerView → Bool
 is_it name p = not p.gone && bytes_eq p.name name
 
 -- of two that are both here and not the same, one hasn't the other's name
-not_named : (here gone name ip nas ipv6 operator : Bool) → gone ≡ false
-    → (here && not gone && (name || ip || nas || ipv6 || operator)) ≡ false → (here && name) ≡ false
-not_named false gone name ip nas ipv6 operator is apart = refl
-not_named true gone false ip nas ipv6 operator is apart = refl
-not_named true true true ip nas ipv6 operator is apart = absurd (cc is)
-not_named true false true ip nas ipv6 operator is apart = absurd (cc apart)
+not_named : (here gone name nas ipv6 operator : Bool) → gone ≡ false
+    → (here && not gone && (name || nas || ipv6 || operator)) ≡ false → (here && name) ≡ false
+not_named false gone name nas ipv6 operator is apart = refl
+not_named true gone false nas ipv6 operator is apart = refl
+not_named true true true nas ipv6 operator is apart = absurd (cc is)
+not_named true false true nas ipv6 operator is apart = absurd (cc apart)
 
 passes_none : {X : Type 0} (test : X → Bool) (xs : List X) (i : ℕ) (x : X) → list_any test xs ≡ false
     → slice_get xs i ≡ Some x → test x ≡ false
@@ -79,7 +79,7 @@ found_there (q ∷ ps) n zero p apart there here =
 found_there (q ∷ ps) n (suc i) p apart there here =
     let parts = or_parts (list_any (same_peer q) ps) (has_pair same_peer ps) apart in
     let other : same_peer q p ≡ false = passes_none (same_peer q) ps i p parts.0 there in
-    let away : is_it p.name q ≡ false = not_named (not q.gone) p.gone (bytes_eq q.name p.name) _ _ _ _ here other in
+    let away : is_it p.name q ≡ false = not_named (not q.gone) p.gone (bytes_eq q.name p.name) _ _ _ here other in
     let place : n + 1 + i ≡ n + suc i = omega arith in
     rw away (found_there ps (n + 1) i p parts.1 there here ∙ ap (λ (k : ℕ). Some k) place)
 
@@ -87,7 +87,9 @@ names_peer : (ps : List PeerView) (s : Session) (p : PeerView) → has_duplicate
     → slice_get ps s.peer ≡ Some p → p.gone ≡ false → AreShort s → session_named ps (named_by p s) ≡ Some s
 unfolding named_by has_duplicate_peer
 names_peer ps s p once there here short =
-    let apart = (or_parts (has_pair same_peer ps) (has_pair bytes_eq (nas_texts ps)) once).0 in
+    let before = (or_parts (has_pair same_peer ps || has_duplicate_prefix ps) (has_pair bytes_eq (nas_texts ps))
+    once).0 in
+    let apart = (or_parts (has_pair same_peer ps) (has_duplicate_prefix ps) before).0 in
     let place : 0 + s.peer ≡ s.peer = omega arith in
     rw (
       short_is p s short,

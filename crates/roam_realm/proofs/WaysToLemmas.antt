@@ -1,18 +1,15 @@
 -- The links to an endpoint, one for each `out` that sends to it, and those to servers, one server after the other.
-use Rattle.std.proofs.Common.{◌≡◌, ℕ, suc, zero, ◌+◌, ◌<◌, ◌≤◌, ◌&&◌, ◌-◌, Bool, true, false, cond, List, [], ◌∷◌, ◌++◌, Option, Some, None, refl, ap, sym, ◌∙◌, arith, inl, inr, get_or, length, drop, drop-cons, add-one, length-drop}
-use Rattle.std.specs.Prelude.{slice_get}
+use Rattle.std.proofs.Common.{◌≡◌, ℕ, suc, zero, ◌+◌, ◌<◌, ◌≤◌, ◌&&◌, ◌-◌, Bool, true, false, cond, List, [], ◌∷◌, ◌++◌, Option, Some, None, refl, ap, sym, ◌∙◌, arith, inl, inr, get_or, length, drop, drop-cons, add-one}
 use Rattle.std.specs.List.{AllByRecursion, find}
 use Rattle.std.specs.Option.{option_or}
 use Rattle.std.proofs.Math.ListN.{drop_of_length-le}
 use Rattle.std.proofs.lemmas.Bool.{cases_Bool}
 use Rattle.roam_address.specs.declared.endpoint.Endpoint.{Endpoint}
-use Rattle.roam_conf.specs.Config.{ServerView}
 use Rattle.roam_conf.specs.Lookup.{out_of}
 use Rattle.roam_conf.specs.Ways.{is_way, same_kind}
 use Rattle.roam_conf.specs.declared.place.Link.{Link}
 use Rattle.roam_conf.specs.declared.place.Link.TheVariants as link
-use Rattle.roam_pending.proofs.TestLemmas.{all-append}
-use Rattle.roam_realm.specs.RealmConfig.{RealmConfig, IsLink, coa_of, links_from, peer_ways, server_link, server_links, service_at, ways_from, ways_to}
+use Rattle.roam_realm.specs.RealmConfig.{RealmConfig, IsLink, coa_of, peer_ways, server_link, ways_from, ways_to}
 use Rattle.roam_realm.specs.declared.service.Service.{Service}
 use Rattle.roam_realm.specs.declared.service.Service.TheVariants as service
 
@@ -84,56 +81,15 @@ pub ways-end : (p : Link → Bool) (link_by : ℕ → Link) (outs : List Endpoin
     → find p (ways_from link_by place (drop place outs) endpoint) ≡ answer → None ≡ answer
 ways-end p link_by outs place endpoint answer past inv = rw (drop_of_length-le outs past) at inv
 
--- ---- the links to a server, behind which are those to the later ones
+-- ---- links in front of others
 
-find-append : {X : Type 0} (p : X → Bool) (xs ys : List X) → find p (xs ++ ys) ≡ option_or (find p xs) (find p ys)
+pub find-append : {X : Type 0} (p : X → Bool) (xs ys : List X) → find p (xs ++ ys) ≡ option_or (find p xs) (find p ys)
 find-append p [] ys = refl
 find-append p (x ∷ xs) ys =
     elim (cases_Bool (p x)) [
       | inl y ↦ rw y refl
       | inr n ↦ rw n (find-append p xs ys)
     ]
-
-server-at : (servers : List ServerView) (place : ℕ) (first : ServerView) → place < length servers
-    → slice_get servers place ≡ Some (get_or servers place first)
-server-at [] place first lt = absurd (omega (arith, lt))
-server-at (s ∷ ss) zero first lt = refl
-server-at (s ∷ ss) (suc place) first lt = server-at ss place first (omega (arith, lt))
-
-links_here : (p : Link → Bool) (outs : List Endpoint) (service : Service) (servers : List ServerView) (place : ℕ)
-    (found : Option Link) → place < length servers
-    → ((s : ServerView) → slice_get servers place ≡ Some s
-    → found ≡ find p (ways_to outs (server_link service place) (service_at service s)))
-    → find p (server_links outs service place (drop place servers))
-    ≡ option_or found (find p (server_links outs service (place + 1) (drop (place + 1) servers)))
-links_here p outs service servers place found lt is =
-    let first = first_of servers place lt in
-    let here = get_or servers place first in
-    ap (λ (ss : List ServerView). find p (server_links outs service place ss)) (drop-cons servers place first lt)
-    ∙ find-append p (ways_to outs (server_link service place) (service_at service here))
-    (server_links outs service (place + 1) (drop (suc place) servers))
-    ∙ ap (λ (o : Option Link). option_or o (find p (server_links outs service (place + 1) (drop (suc place) servers))))
-    (sym (is here (server-at servers place first lt)))
-    ∙ ap (λ (k : ℕ). option_or found (find p (server_links outs service (place + 1) (drop k servers))))
-    (sym (add-one place))
-
--- a link to the server at a place passes, and none before it did; none of them passes
-pub server-hit : (p : Link → Bool) (outs : List Endpoint) (service : Service) (servers : List ServerView) (place : ℕ)
-    (l : Link) (answer : Option Link) → place < length servers
-    → ((s : ServerView) → slice_get servers place ≡ Some s
-    → Some l ≡ find p (ways_to outs (server_link service place) (service_at service s)))
-    → find p (server_links outs service place (drop place servers)) ≡ answer → Some l ≡ answer
-server-hit p outs service servers place l answer lt is inv =
-    sym (links_here p outs service servers place (Some l) lt is) ∙ inv
-
-pub server-skip : (p : Link → Bool) (outs : List Endpoint) (service : Service) (servers : List ServerView) (place : ℕ)
-    (answer : Option Link) → place < length servers
-    → ((s : ServerView) → slice_get servers place ≡ Some s
-    → None ≡ find p (ways_to outs (server_link service place) (service_at service s)))
-    → find p (server_links outs service place (drop place servers)) ≡ answer
-    → find p (server_links outs service (place + 1) (drop (place + 1) servers)) ≡ answer
-server-skip p outs service servers place answer lt is inv =
-    sym (links_here p outs service servers place None lt is) ∙ inv
 
 -- ---- the links of the realm
 
@@ -148,7 +104,7 @@ ways-are P count link_by endpoint place (out ∷ outs) few each =
       | inr n ↦ rw n others
     ]
 
-ways-to-are : (P : Link → Type 0) (outs : List Endpoint) (link_by : ℕ → Link) (endpoint : Option Endpoint)
+pub ways-to-are : (P : Link → Type 0) (outs : List Endpoint) (link_by : ℕ → Link) (endpoint : Option Endpoint)
     → ((out : ℕ) → out < length outs → P (link_by out)) → AllByRecursion P (ways_to outs link_by endpoint)
 ways-to-are P outs link_by None each = tt
 ways-to-are P outs link_by (Some endpoint) each = ways-are P (length outs) link_by endpoint 0 outs (omega arith) each
@@ -157,21 +113,6 @@ pub server-is : (c : RealmConfig) (s : Service) (server out : ℕ) → server < 
     → out < length c.realm.out → IsLink c (server_link s server out)
 server-is c service.Authentication server out within way = (within, way)
 server-is c service.Accounting server out within way = (within, way)
-
-servers-are : (c : RealmConfig) (s : Service) (place : ℕ) (servers : List ServerView)
-    → length servers ≤ length c.realm.servers - place
-    → AllByRecursion (IsLink c) (server_links c.realm.out s place servers)
-servers-are c s place [] few = tt
-servers-are c s place (x ∷ xs) few =
-    all-append (IsLink c) (ways_to c.realm.out (server_link s place) (service_at s x))
-    (server_links c.realm.out s (place + 1) xs)
-    (ways-to-are (IsLink c) c.realm.out (server_link s place) (service_at s x)
-    (λ out way. server-is c s place out (omega (arith, few)) way))
-    (servers-are c s (place + 1) xs (omega (arith, few)))
-
-pub links-are : (c : RealmConfig) (s : Service) (from : ℕ) → AllByRecursion (IsLink c) (links_from c s from)
-links-are c s from =
-    servers-are c s from (drop from c.realm.servers) (omega (arith, length-drop from c.realm.servers))
 
 pub peer-ways-are : (c : RealmConfig) (peer : ℕ) → peer < length c.peers
     → AllByRecursion (IsLink c) (peer_ways c peer)

@@ -1,5 +1,6 @@
 -- The parts of one realm that are read and kept, in the order in which it is read.
 pub mod RealmConfig
+pub mod ServerOrder
 pub mod Shapings
 pub mod Rests
 pub mod RealmState

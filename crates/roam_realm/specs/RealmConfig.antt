@@ -1,5 +1,5 @@
 -- The parts of the configuration that the proxy of one realm reads, and the links of that realm (ours).
-use Rattle.std.specs.Prelude.{ℕ, ◌+◌, ◌*◌, ◌<◌, ◌==◌, Bool, false, List, [], ◌∷◌, ◌++◌, drop, length, Option, Some, None, slice_get, slice_index_or, unwrap_or, if◌then◌else◌}
+use Rattle.std.specs.Prelude.{ℕ, ◌+◌, ◌*◌, ◌<◌, ◌==◌, Bool, false, List, [], ◌∷◌, length, Option, Some, None, slice_get, slice_index_or, unwrap_or, if◌then◌else◌}
 use Rattle.std.specs.Option.{option_and_then, option_map_or}
 use Rattle.roam_wire.specs.declared.code.TheConstants.{ACCESS_REQUEST}
 use Rattle.roam_conf.specs.Config.{ConfigView, PeerView, RealmView, ServerView}
@@ -55,6 +55,7 @@ no_realm = record {
   peer_share = None;
   own_names = false;
   conversations = false;
+  by_user = false;
   own_sessions = false;
   coa_clients = [];
   rest = 0;
@@ -132,9 +133,9 @@ abbrev pub IsRequester : RealmConfig → Requester → Type 0
 IsRequester c (requester.Peer peer) = peer < length c.peers
 IsRequester c (requester.Home home) = home < homes c.realm
 
--- a server's endpoint of a service: its `auth`, or its `acct`, if it has one; the link to it by an `out`
+-- a server's endpoint of a service: its `auth`, or its `acct`, if it has that; the link to it by an `out`
 abbrev pub service_at : Service → ServerView → Option Endpoint
-service_at service.Authentication s = Some s.auth
+service_at service.Authentication s = s.auth
 service_at service.Accounting s = s.acct
 
 abbrev pub server_link : Service → ℕ → ℕ → Link
@@ -154,16 +155,6 @@ abbrev pub ways_to : List Endpoint → (ℕ → Link) → Option Endpoint → Li
 ways_to outs link_by None = []
 ways_to outs link_by (Some endpoint) = ways_from link_by 0 outs endpoint
 
--- those to the endpoints of some servers, by these `out`: the servers in order, numbered from this place on
-abbrev pub server_links : List Endpoint → Service → ℕ → List ServerView → List Link
-server_links outs service place [] = []
-server_links outs service place (s ∷ ss) =
-    ways_to outs (server_link service place) (service_at service s) ++ server_links outs service (place + 1) ss
-
--- those to the realm's servers from this place on
-abbrev pub links_from : RealmConfig → Service → ℕ → List Link
-links_from c service place = server_links c.realm.out service place (drop place c.realm.servers)
-
 -- where a peer takes reverse requests, if it is there and does; the links to it
 abbrev pub coa_of : RealmConfig → ℕ → Option Endpoint
 coa_of c peer = option_and_then (λ p. p.coa) (slice_get c.peers peer)
@@ -175,9 +166,3 @@ peer_ways c peer = ways_to c.realm.out (λ out. link.Coa peer out) (coa_of c pee
 -- section 4)
 abbrev pub service_of : ℕ → Service
 service_of code = if code == ACCESS_REQUEST then service.Authentication else service.Accounting
-
--- the targets after a link, for a request that goes on to the next server: the links to later ones
-abbrev pub later_targets : RealmConfig → Link → List Link
-later_targets c (link.Auth server out) = links_from c service.Authentication (server + 1)
-later_targets c (link.Acct server out) = links_from c service.Accounting (server + 1)
-later_targets c (link.Coa peer out) = []

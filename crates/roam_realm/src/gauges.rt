@@ -27,7 +27,7 @@ pub struct Gauges {
     pub rests: [Rest; SERVER_LINKS],
 }
 
-/// One, where that is so.
+/// Returns one where that is so, else zero.
 fn one_if(is_so: bool) -> u16
     ensures value { result ≡ if is_so then 1 else 0 }
     ensures small { result ≤ 1 }

@@ -9,6 +9,8 @@
 //! - a realm begins with nothing in use, no session open, and all servers awake | `RealmNumbers::new`
 //! - an Identifier that is taken toward a link is the next free one, and what the lanes tell of entries stays true when one
 //!   is taken and when one is given back | `RealmNumbers::take_next`, `give_back`: `next`, `tells`
+//! - the servers of a request are those of its service, in configured order or turned by its user; the later ones are
+//!   those behind its own | `RealmSettings::servers_for`, `servers_behind`
 //! - the link that is chosen is the first with a free Identifier that doesn't stand back, or where each such does, the
 //!   first of them | `RealmNumbers::chosen`: `chosen`
 //! - how a link rests once it is chosen, kept silent or gave a sign of life is as it is written; all else stays |
@@ -28,6 +30,7 @@ mod realm_numbers;
 mod realm_settings;
 mod rest;
 mod saving;
+mod server_order;
 mod service;
 mod shapings;
 mod start;
@@ -39,5 +42,6 @@ pub use realm_numbers::{RealmNumbers, new_lanes, new_rests, tag_of};
 pub use realm_settings::RealmSettings;
 pub use rest::Rest;
 pub use saving::save_realm;
-pub use service::{ServersFrom, Service};
+pub use server_order::{CALLING_STATION_ID, ServersFrom};
+pub use service::Service;
 pub use start::Start;

@@ -1,19 +1,21 @@
 //! The choice among a request's links: one with a free Identifier, before one that is marked dead.
 
-ghost use Rattle.std.specs.Prelude.{◌≡◌, ◌<◌, ◌&&◌, Some, true, length, slice_get, IfSome};
+ghost use Rattle.std.specs.Prelude.{◌≡◌, ◌<◌, ◌&&◌, ℕ, Some, true, length, slice_get, IfSome};
 ghost use Rattle.std.specs.List.{find};
 ghost use Rattle.roam_conf.specs.Config.{ServerView};
 ghost use Rattle.roam_conf.specs.Lookup.{out_of};
 ghost use Rattle.roam_conf.specs.Ways.{is_way};
-ghost use Rattle.roam_realm.specs.RealmConfig.{IsLink, link_count, links_from, peer_ways, server_link};
+ghost use Rattle.roam_realm.specs.RealmConfig.{IsLink, link_count, peer_ways, server_link};
 ghost use Rattle.roam_realm.specs.RealmConfig.{service_at, ways_to};
+ghost use Rattle.roam_realm.specs.ServerOrder.{in_order, links_from, server_ways};
 ghost use Rattle.roam_realm.specs.Sound.{AreOwnLanes, lane_of, has_free, is_freed, is_open, marks_of, chosen_link};
 ghost use Rattle.roam_realm.specs.Sound.{is_sought};
 
 use crate::link_rests::Wanted;
 use crate::realm_numbers::RealmNumbers;
 use crate::realm_settings::RealmSettings;
-use crate::service::{ServersFrom, Service};
+use crate::server_order::ServersFrom;
+use crate::service::Service;
 use roam_conf::{Endpoint, Link};
 use std::alloc::Allocator;
 
@@ -98,8 +100,29 @@ impl<A: Allocator + Copy> RealmNumbers<A> {
         None
     }
 
-    /// Returns the first of the servers' links, from a server's place on, that has a free Identifier, or that is
-    /// `freed`, and is wanted.
+    /// Returns the same of the links to the nth server of an order.
+    fn sought_at(
+        &self,
+        settings: &RealmSettings<'_>,
+        servers: ServersFrom,
+        nth: u8,
+        wanted: Wanted,
+        freed: Option<Link>,
+    ) -> Option<Link>
+        requires count { length self.now.lanes.items ≡ link_count settings.now }
+        ensures first { (place : ℕ) → slice_get (in_order settings.now servers) nth ≡ Some place
+            → result ≡ find (is_sought settings.now self.now.rests.items self.now.lanes.items wanted freed)
+            (server_ways settings.now servers.service place) }
+        ensures link { IfSome result (λ l. IsLink settings.now l) }
+        ensures made { AreOwnLanes settings.now (marks_of self.now.lanes.items)
+            → IfSome result (λ l. (lane_of settings.now self.now.lanes.items l).made ≡ true) }
+    {
+        let server = settings.nth_in_order(servers, nth)?;
+        self.first_sought_to(settings, servers.service, server, wanted, freed)
+    }
+
+    /// Returns the first of the links to the servers of an order that has a free Identifier, or that is `freed`, and is
+    /// wanted.
     pub fn first_sought(
         &self,
         settings: &RealmSettings<'_>,
@@ -109,20 +132,15 @@ impl<A: Allocator + Copy> RealmNumbers<A> {
     ) -> Option<Link>
         requires count { length self.now.lanes.items ≡ link_count settings.now }
         ensures first { result ≡ find (is_sought settings.now self.now.rests.items
-            self.now.lanes.items wanted freed) (links_from settings.now servers.service servers.first) }
+            self.now.lanes.items wanted freed) (links_from settings.now servers) }
         ensures link { IfSome result (λ l. IsLink settings.now l) }
         ensures made { AreOwnLanes settings.now (marks_of self.now.lanes.items)
             → IfSome result (λ l. (lane_of settings.now self.now.lanes.items l).made ≡ true) }
     {
-        for server in servers.first..settings.server_count() {
-            if let Some(link) = self.first_sought_to(
-                settings,
-                servers.service,
-                server as u8,
-                wanted,
-                freed,
-            ) {
-                return Some(link);
+        for nth in servers.passed..settings.order_count(servers) {
+            let link = self.sought_at(settings, servers, nth, wanted, freed);
+            if link.is_some() {
+                return link;
             }
         }
         None
@@ -151,9 +169,8 @@ impl<A: Allocator + Copy> RealmNumbers<A> {
         }
         None
     }
-    /// Returns the one of the servers' links, from a server's place on, that is chosen at a moment: of those that have
-    /// a free Identifier, or are `freed`, the first that doesn't stand back; where all of these stand back, the first
-    /// of them.
+    /// Returns the one of the links to the servers of an order that is chosen at a moment: of those that have a free
+    /// Identifier, or are `freed`, the first that doesn't stand back; where all of these stand back, the first of them.
     pub fn chosen(
         &self,
         settings: &RealmSettings<'_>,
@@ -164,7 +181,7 @@ impl<A: Allocator + Copy> RealmNumbers<A> {
         requires count { length self.now.lanes.items ≡ link_count settings.now }
         requires lanes { AreOwnLanes settings.now (marks_of self.now.lanes.items) }
         ensures chosen { result ≡ chosen_link settings.now now self.now.rests.items
-            self.now.lanes.items freed (links_from settings.now servers.service servers.first) }
+            self.now.lanes.items freed (links_from settings.now servers) }
         ensures link { IfSome result (λ l. IsLink settings.now l) }
         ensures made { IfSome result (λ l.
             (lane_of settings.now self.now.lanes.items l).made ≡ true) }

@@ -112,8 +112,8 @@ impl<A: Allocator + Copy> RealmNumbers<A> {
         }
     }
 
-    /// A link was chosen as a target: where it has a moment until which it rests, in the past or not,
-    /// that is `now + rest` from now on.
+    /// Notes that a link was chosen as a target: where it has a moment until which it is marked dead, in the past or
+    /// not, that is `now + rest` from now on.
     pub fn put_off(&mut self, settings: &RealmSettings<'_>, now: u64, link: Link)
         requires moment { now ≤ 2 ^ 62 }
         requires link { IsLink settings.now link }
@@ -124,7 +124,8 @@ impl<A: Allocator + Copy> RealmNumbers<A> {
         self.set_rest(settings, link, rest);
     }
 
-    /// The same, where no conversation bound the request to the link.
+    /// Notes that a link was chosen as a target, where no conversation bound the request to the link: then a moment
+    /// until which it is marked dead is `now + rest` from now on.
     pub fn put_off_unless(
         &mut self,
         settings: &RealmSettings<'_>,
@@ -142,9 +143,9 @@ impl<A: Allocator + Copy> RealmNumbers<A> {
         }
     }
 
-    /// A request was given up at a link, whose packet was built when the link had given so many signs of
-    /// life: where it gave none since, that is counted there, and where it was so often enough, the link
-    /// rests. Where the realm's `rest` is 0 nothing is counted.
+    /// Counts a request that was given up at a link. Its packet was built when the link had given so many signs of
+    /// life: where the link gave none since, that is counted there, and where it was so often enough, the link is
+    /// marked dead. Where the realm's `rest` is 0 nothing is counted.
     pub fn count_silence(&mut self, settings: &RealmSettings<'_>, now: u64, link: Link, signs: u64)
         requires moment { now ≤ 2 ^ 62 }
         requires link { IsLink settings.now link }
@@ -157,7 +158,7 @@ impl<A: Allocator + Copy> RealmNumbers<A> {
         }
     }
 
-    /// A link gave a sign of life: it doesn't rest, and no request counts as given up there.
+    /// Notes that a link gave a sign of life: it isn't marked dead, and no request counts as given up there.
     pub fn hear(&mut self, settings: &RealmSettings<'_>, link: Link)
         requires link { IsLink settings.now link }
         ensures { RestsBecome (after_sign settings.now self.old.rests.items link)

@@ -37,7 +37,7 @@ impl RealmSettings<'_> {
             → result ≡ service_at service s }
     {
         match service {
-            Service::Authentication => Some(self.server(server).auth),
+            Service::Authentication => self.server(server).auth,
             Service::Accounting => self.server(server).acct,
         }
     }
@@ -62,7 +62,7 @@ impl RealmSettings<'_> {
         }
     }
 
-    /// The place of a link's socket in the realm's `out`.
+    /// Returns the place of a link's socket in the realm's `out`.
     pub fn out_of(&self, link: Link) -> u8
         ensures place { result ≡ out_of link }
         ensures below { IsLink self.now link → result < length self.now.realm.out }
@@ -72,7 +72,7 @@ impl RealmSettings<'_> {
         }
     }
 
-    /// The endpoint of a link of the realm.
+    /// Returns the endpoint of a link of the realm.
     pub fn endpoint_of(&self, link: Link) -> Endpoint
         requires { IsLink self.now link }
         ensures { result ≡ link_endpoint self.now link }
@@ -119,7 +119,7 @@ impl RealmSettings<'_> {
         self.has_end(link) && usize::from(self.out_of(link)) < self.out_count()
     }
 
-    /// The place of a link's end among the realm's ends.
+    /// Returns the place of a link's end among the realm's ends.
     pub fn end_place(&self, link: Link) -> usize
         requires { IsLink self.now link }
         ensures place { result ≡ end_place self.now link }
@@ -134,7 +134,7 @@ impl RealmSettings<'_> {
         }
     }
 
-    /// The place of a link among the realm's links.
+    /// Returns the place of a link among the realm's links.
     pub fn place_of(&self, link: Link) -> usize
         requires { IsLink self.now link }
         ensures place { result ≡ link_place self.now link }

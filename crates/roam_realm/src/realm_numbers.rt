@@ -65,7 +65,7 @@ impl<A: Allocator> Drop for RealmNumbers<A> {
     }
 }
 
-/// The tag of a lane: its realm's index, and the place of its link.
+/// Returns the tag of a lane: its realm's index, and the place of its link.
 pub fn tag_of(settings: &RealmSettings<'_>, place: usize) -> u32
     requires { place < 16640 }
     ensures { result ≡ settings.now.index * 65536 + place }
@@ -73,8 +73,8 @@ pub fn tag_of(settings: &RealmSettings<'_>, place: usize) -> u32
     u32::from(settings.index()) * 65536 + place as u32
 }
 
-/// The lane of the link at a place, of which nothing is in use. Toward a server its memory is there;
-/// toward a peer it is taken when a reverse request first needs it.
+/// Makes the lane of the link at a place, in which no Identifier is in use. Toward a server its memory is there;
+/// toward a peer it is taken when a Disconnect- or CoA-Request first needs it.
 fn new_lane<A: Allocator>(
     alloc: A,
     settings: &RealmSettings<'_>,
@@ -94,7 +94,7 @@ fn new_lane<A: Allocator>(
     Ok(lane)
 }
 
-/// A lane for each link, of which nothing is in use.
+/// Makes a lane for each link, in which no Identifier is in use.
 pub fn new_lanes<A: Allocator + Copy>(
     alloc: A,
     settings: &RealmSettings<'_>,
@@ -114,7 +114,7 @@ pub fn new_lanes<A: Allocator + Copy>(
     Ok(lanes)
 }
 
-/// All servers' links of a realm, awake.
+/// Makes the list of all servers' links of a realm, none of them marked dead.
 pub fn new_rests<A: Allocator + Copy>(
     alloc: A,
     settings: &RealmSettings<'_>,
@@ -130,7 +130,8 @@ pub fn new_rests<A: Allocator + Copy>(
 }
 
 impl<A: Allocator + Copy> RealmNumbers<A> {
-    /// Nothing is in use yet, and the place and the next ticket are those given.
+    /// Makes the numbers of a realm in which nothing is in use yet. The place in the random stream and the next
+    /// ticket are those given.
     pub fn new(
         alloc: A,
         settings: &RealmSettings<'_>,
@@ -152,7 +153,7 @@ impl<A: Allocator + Copy> RealmNumbers<A> {
         })
     }
 
-    /// The place in the stream of random words and the next ticket, as a start. Takes no memory.
+    /// Returns the place in the stream of random words and the next ticket, as a start. Takes no memory.
     pub fn start(&self) -> Start
         ensures place { result.place ≡ self.now.stream_position }
         ensures ticket { result.ticket ≡ self.now.ticket }
@@ -163,7 +164,7 @@ impl<A: Allocator + Copy> RealmNumbers<A> {
         }
     }
 
-    /// The ticket of the request that waits on a link with an Identifier, by the link's lane. `None`
+    /// Returns the ticket of the request that waits on a link with an Identifier, by the link's lane. Returns `None`
     /// also where the link isn't the realm's.
     pub fn holder(&self, settings: &RealmSettings<'_>, link: Link, id: u8) -> Option<u64>
         requires count { length self.now.lanes.items ≡ link_count settings.now }

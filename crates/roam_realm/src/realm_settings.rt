@@ -3,6 +3,7 @@
 ghost use Rattle.std.specs.Prelude.{◌≡◌, ◌<◌, ◌≤◌, ℕ, IfOk, Some, length, map, slice_get, vec_len};
 ghost use Rattle.std.specs.Result.{result_err};
 ghost use Rattle.roam_wire.specs.Secret.{IsSecret};
+ghost use Rattle.roam_conf.specs.Lookup.{is_source_of};
 ghost use Rattle.roam_conf.specs.Shown.{shown};
 ghost use Rattle.roam_conf.specs.Parts.{shown_realm, shown_peer, shown_server};
 ghost use Rattle.roam_sessions.specs.Causes.{cause};
@@ -11,7 +12,7 @@ ghost use Rattle.roam_realm.specs.RealmConfig.{realm_config, server_secret, peer
 ghost use Rattle.roam_realm.specs.RealmConfig.{seal_required, IsLink, IsRequester};
 
 use crate::hashing::hash_key;
-use roam_conf::{Config, Link, Peer, Realm, Server};
+use roam_conf::{Address, Config, Link, Peer, Realm, Server};
 use roam_crypto::Secret;
 use roam_pending::Requester;
 use roam_random::HashKey;
@@ -40,7 +41,7 @@ impl<'c> Model for RealmSettings<'c> {
 }
 
 impl<'c> RealmSettings<'c> {
-    /// Those of the realm of this index, which is configured.
+    /// Makes the settings of the realm of this index, which is configured.
     pub fn new(config: &'c Config, realm: u16) -> RealmSettings<'c>
         requires { realm < vec_len config.now.realms }
         ensures { result ≡ realm_config (shown config.now) realm }
@@ -48,21 +49,28 @@ impl<'c> RealmSettings<'c> {
         RealmSettings { config, realm }
     }
 
-    /// The realm's index.
+    /// Returns the realm's index.
     pub fn index(&self) -> u16
         ensures { result ≡ self.now.index }
     {
         self.realm
     }
 
-    /// The realm's entry of the configuration.
+    /// Returns the realm's entry of the configuration.
     pub fn realm(&self) -> &Realm
         ensures { shown_realm result.now ≡ self.now.realm }
     {
         &self.config.realms[usize::from(self.realm)]
     }
 
-    /// The seed of the random words.
+    /// Returns whether a source at an address is this peer's.
+    pub fn is_source_of(&self, peer: u16, ip: Address) -> bool
+        ensures { result ≡ is_source_of self.now.peers peer ip }
+    {
+        self.config.is_source_of(peer, ip)
+    }
+
+    /// Returns the seed of the random words.
     pub fn seed(&self) -> [u8; 32]
         ensures { result ≡ self.now.seed }
     {
@@ -76,21 +84,21 @@ impl<'c> RealmSettings<'c> {
         self.realm().tries
     }
 
-    /// The time from one sending to the next, in milliseconds.
+    /// Returns the time from one sending to the next, in milliseconds.
     pub fn wait(&self) -> u32
         ensures { result ≡ self.now.realm.wait }
     {
         self.realm().wait
     }
 
-    /// The time for which a reply is held, in milliseconds.
+    /// Returns the time for which a reply is held, in milliseconds.
     pub fn hold(&self) -> u32
         ensures { result ≡ self.now.realm.hold }
     {
         self.realm().hold
     }
 
-    /// The time for which a link rests that keeps silent, in milliseconds.
+    /// Returns the time for which a link that doesn't answer is marked dead, in milliseconds.
     pub(crate) fn rest(&self) -> u32
         ensures { result ≡ self.now.realm.rest }
     {
@@ -159,6 +167,13 @@ impl<'c> RealmSettings<'c> {
         self.realm().conversations
     }
 
+    /// Returns whether the user of a request decides with which server its targets begin.
+    pub(crate) fn is_by_user(&self) -> bool
+        ensures { result ≡ self.now.realm.by_user }
+    {
+        self.realm().by_user
+    }
+
     /// Returns how many home servers the realm has: at most 8.
     pub fn server_count(&self) -> usize
         ensures count { result ≡ length self.now.realm.servers }
@@ -175,7 +190,7 @@ impl<'c> RealmSettings<'c> {
         self.config.peers.len()
     }
 
-    /// All peers.
+    /// Returns all peers.
     pub fn peers(&self) -> &[Peer]
         ensures peers { map shown_peer result.now ≡ self.now.peers }
         ensures few { length result.now ≤ 1024 }
@@ -183,7 +198,7 @@ impl<'c> RealmSettings<'c> {
         self.config.peers.as_slice()
     }
 
-    /// The home server of a place.
+    /// Returns the home server of a place.
     pub(crate) fn server(&self, server: u8) -> &Server
         requires { server < length self.now.realm.servers }
         ensures secret { server_secret self.now server ≡ (shown_server result.now).secret }
@@ -193,7 +208,7 @@ impl<'c> RealmSettings<'c> {
         &self.realm().servers[usize::from(server)]
     }
 
-    /// The peer of an index.
+    /// Returns the peer of an index.
     pub(crate) fn peer(&self, peer: u16) -> &Peer
         requires { peer < length self.now.peers }
         ensures secret { peer_secret self.now peer ≡ (shown_peer result.now).secret }
@@ -202,7 +217,7 @@ impl<'c> RealmSettings<'c> {
         &self.config.peers[usize::from(peer)]
     }
 
-    /// The secret shared with a link of the realm, of 1 to 64 octets.
+    /// Returns the secret shared with a link of the realm, of 1 to 64 octets.
     pub fn secret_of_link(&self, link: Link) -> &Secret
         requires { IsLink self.now link }
         ensures text { result.now ≡ link_secret self.now link }
@@ -225,7 +240,7 @@ impl<'c> RealmSettings<'c> {
         }
     }
 
-    /// The secret shared with the sender of a request, of 1 to 64 octets.
+    /// Returns the secret shared with the sender of a request, of 1 to 64 octets.
     pub fn secret_of_requester(&self, requester: Requester) -> &Secret
         requires { IsRequester self.now requester }
         ensures text { result.now ≡ requester_secret self.now requester }
@@ -237,7 +252,8 @@ impl<'c> RealmSettings<'c> {
         }
     }
 
-    /// The peer that a reverse request is for, or the Error-Cause, by the realm that it names (RFC 5176, section 3.5).
+    /// Returns the peer that a Disconnect- or CoA-Request is for, or the Error-Cause, by the realm that it names (RFC
+    /// 5176, section 3.5).
     pub fn route_of<A: Allocator + Copy>(
         &self,
         named: Option<u16>,

@@ -25,7 +25,8 @@ fn one_more(count: u16) -> u16
 }
 
 impl Rest {
-    /// It doesn't rest, no request was given up, and it has given no sign of life.
+    /// Makes the state of a link that isn't marked dead, at which no request was given up, and which has given no
+    /// sign of life.
     pub fn awake() -> Rest
         ensures { result ≡ awake }
     {
@@ -46,7 +47,7 @@ impl Rest {
         }
     }
 
-    /// Once its link is chosen: where there is a moment, in the past or not, it is `now + rest`.
+    /// Returns the state once its link is chosen: where there is a moment, in the past or not, it is `now + rest`.
     pub(crate) fn once_chosen(self, settings: &RealmSettings<'_>, now: u64) -> Rest
         requires moment { now ≤ 2 ^ 62 }
         ensures { result ≡ once_chosen settings.now now self }
@@ -62,8 +63,8 @@ impl Rest {
         }
     }
 
-    /// Once a request was given up at its link: that is counted, and where it was so for the
-    /// `rest_after`th time or more, it rests until `now + rest`.
+    /// Returns the state once a request was given up at its link: that is counted, and where it was so for the
+    /// `rest_after`th time or more, the link is marked dead until `now + rest`.
     pub(crate) fn once_silent(self, settings: &RealmSettings<'_>, now: u64) -> Rest
         requires moment { now ≤ 2 ^ 62 }
         ensures { result ≡ once_silent settings.now now self }
@@ -81,7 +82,8 @@ impl Rest {
         }
     }
 
-    /// Once its link gave a sign of life: it doesn't rest, and no request counts as given up.
+    /// Returns the state once its link gave a sign of life: the link isn't marked dead, and no request counts as
+    /// given up.
     pub(crate) fn once_heard(self) -> Rest
         ensures { result ≡ once_heard self }
     {

@@ -18,7 +18,7 @@ use roam_sessions::{Item, SessionItem, SessionParts, Text, Writing};
 use roam_wire::NoMemory;
 use std::alloc::{AllocError, Allocator};
 
-/// The octets of a text, where there is one.
+/// Returns the octets of a text, where there is one.
 fn octets_of<'a>(text: Option<Text<'a>>) -> Option<&'a [u8]>
     ensures { option_map shown_octets result ≡ option_map shown_text text.entry }
 {
@@ -35,7 +35,7 @@ fn is_named(peer: &Peer, name: &[u8]) -> bool
     !peer.gone && peer.name.as_bytes() == name
 }
 
-/// The first peer that is here and has a name.
+/// Finds the first peer that isn't gone and has a name.
 fn peer_named(peers: &[Peer], name: &[u8]) -> Option<u16>
     requires { length peers.now ≤ 1024 }
     ensures { result ≡ first_place (λ p. not p.gone && bytes_eq p.name name.now) (map shown_peer peers.now) }
@@ -48,7 +48,7 @@ fn peer_named(peers: &[Peer], name: &[u8]) -> Option<u16>
     None
 }
 
-/// A text of these octets, where there are any: nothing where a file has no room for them.
+/// Makes a text of these octets, where there are any. Returns `None` where a file has no room for them.
 fn text_if_any(octets: Option<&[u8]>) -> Option<Option<Text<'_>>>
     ensures { IfSome result (λ text. option_map shown_text text ≡ option_map shown_octets octets.entry) }
 {

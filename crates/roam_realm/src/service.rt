@@ -16,7 +16,7 @@ pub enum Service {
 }
 
 impl Service {
-    /// The service that a request of this code asks for.
+    /// Returns the service that a request of this code asks for.
     pub fn of_code(code: u8) -> Service
         ensures { result ≡ service_of code }
     {
@@ -27,7 +27,7 @@ impl Service {
         }
     }
 
-    /// The link to the server of this place, by the `out` of this place.
+    /// Returns the link to the server of this place, by the `out` of this place.
     pub fn link(self, server: u8, out: u8) -> Link
         ensures { result ≡ server_link self server out }
     {
@@ -36,11 +36,4 @@ impl Service {
             Service::Accounting => Link::Acct(server, out),
         }
     }
-}
-
-/// The home servers of a realm for a service, from a place in the realm's list on.
-#[derive(Clone, Copy)]
-pub struct ServersFrom {
-    pub service: Service,
-    pub first: usize,
 }

@@ -23,7 +23,7 @@ fn are_octets(name: &[u8])
     ensures { AreOctets name.now }
 {}
 
-/// So are those of a name, if there is one.
+/// Shows that a name's octets are octets, if there is one.
 fn are_octets_of(name: Option<&[u8]>)
     ensures { ForSome (option_map (λ name. name.now) name.entry) AreOctets }
 {
@@ -38,7 +38,7 @@ fn peers_have_short_names(config: &Config)
         → HasShortName (shaping_between (slice_get (shown config.now).peers peer) (Some realm)) }
 {}
 
-/// Without these attributes, and with nothing that is added.
+/// Makes the shaping that takes these attributes out, and adds nothing.
 fn only_without(removal: Removal<'_>) -> Shaping<'_>
     ensures shaping { shown_shaping result ≡ record no_shaping { removed = removed_by removal.entry } }
     ensures name { HasShortName (shown_shaping result) }

@@ -1,14 +1,14 @@
 -- What becomes of a realm.
-use Rattle.std.proofs.Common.{◌≡◌, ◌≢◌, ℕ, zero, suc, ◌<◌, Bool, true, false, not, List, [], ◌∷◌, ◌++◌, Option, Some, None, is_some, IfNone, IfSome, option_map, unwrap_or, slice_get, map, length, refl, ap, sym, ◌∙◌, arith}
+use Rattle.std.proofs.Common.{◌≡◌, ◌≢◌, ℕ, Bool, true, false, not, List, [], Option, Some, None, is_some, IfNone, IfSome, option_map, unwrap_or, slice_get, refl, ap, sym, ◌∙◌}
 use Rattle.std.proofs.lemmas.Bool.{false≢true, true≢false}
-use Rattle.std.proofs.lemmas.List.{length-map}
 use Rattle.std.specs.Prelude.{is_none}
 use Rattle.roam_conf.specs.declared.accounting.Accounting.TheVariants.{Forwarded}
 use Rattle.roam_conf.specs.Config.{ConfigView, PeerView, RealmView}
 use Rattle.roam_reload.specs.Differences.{IsOtherPeer, RealmsDiffer}
-use Rattle.roam_reload.specs.Reload.{IsCarried, IsUntouched, KeepsPeers, peer_part, realm_part}
+use Rattle.roam_reload.specs.Reload.{IsCarried, IsUntouched, KeepsPeers, realm_part}
 use Rattle.roam_reload.specs.declared.keys.RealmKey.{RealmKey}
-use Rattle.roam_reload.specs.declared.keys.RealmKey.TheVariants.{Gone, Out, Reverse, Tries, Wait, Hold, MaxPending, MaxSessions, Rest, RestAfter, Servers, Peers, LoopPrevention, Accounting, RequestWithout, ReplyWithout, Share, PeerShare, OwnNames, Conversations, OwnSessions, CoaClients}
+use Rattle.roam_reload.specs.declared.keys.RealmKey.TheVariants.{Gone, Out, Reverse, Tries, Wait, Hold, MaxPending, MaxSessions, Rest, RestAfter, Servers, Peers, LoopPrevention, Accounting, RequestWithout, ReplyWithout, Share, PeerShare, OwnNames, Conversations, Balance, OwnSessions, CoaClients}
+use Rattle.roam_reload.proofs.PeerLemmas.{kept_each}
 
 -- some realm
 abbrev no_realm : RealmView
@@ -34,6 +34,7 @@ no_realm = record {
   peer_share = None;
   own_names = false;
   conversations = false;
+  by_user = false;
   own_sessions = false;
   coa_clients = [];
   gone = false;
@@ -60,6 +61,7 @@ other_part a b Share d = λ e. d (ap (λ (x : RealmView). x.share) e)
 other_part a b PeerShare d = λ e. d (ap (λ (x : RealmView). x.peer_share) e)
 other_part a b OwnNames d = λ e. d (ap (λ (x : RealmView). x.own_names) e)
 other_part a b Conversations d = λ e. d (ap (λ (x : RealmView). x.conversations) e)
+other_part a b Balance d = λ e. d (ap (λ (x : RealmView). x.by_user) e)
 other_part a b OwnSessions d = λ e. d (ap (λ (x : RealmView). x.own_sessions) e)
 other_part a b CoaClients d = λ e. d (ap (λ (x : RealmView). x.coa_clients) e)
 other_part a b Servers d = λ e. d (ap (λ (x : RealmView). x.servers) e)
@@ -94,19 +96,11 @@ pub somewhere : (old new : ConfigView) (r : ℕ) (before after : RealmView) (key
 somewhere old new r before after None was is differ some = absurd (true≢false some)
 somewhere old new r before after (Some key) was is differ some = touched old new r before after key was is differ
 
-front_kept : (xs ys : List PeerView) (i : ℕ) → i < length xs → slice_get (xs ++ ys) i ≡ slice_get xs i
-front_kept [] ys i inside = absurd (omega (arith, inside))
-front_kept (x ∷ xs) ys zero inside = refl
-front_kept (x ∷ xs) ys (suc i) inside = front_kept xs ys i (omega (arith, inside))
-
 -- where all peers are kept, none is another
 pub no_other : (old new : List PeerView) (peer : Option ℕ) → IfSome peer (IsOtherPeer old new) → KeepsPeers old new →
     is_none peer ≡ true
 no_other old new None other kept = refl
-no_other old new (Some i) other kept =
-    let inside : i < length (map peer_part old) = rw (length-map old peer_part) other.there in
-    absurd (other.differs (ap (λ (ps : List PeerView). slice_get ps i) kept.same
-    ∙ front_kept (map peer_part old) kept.more i inside))
+no_other old new (Some i) other kept = absurd (other.differs (kept_each old new kept i other.there))
 
 -- what `is_none` tells
 pub none_told : {K : Type 0} (o : Option K) (told : Bool) → is_some o ≡ not told → is_none o ≡ told

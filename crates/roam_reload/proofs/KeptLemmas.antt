@@ -1,17 +1,16 @@
 -- Of equal tables all stays.
-use Rattle.std.proofs.Common.{◌≡◌, ℕ, zero, suc, ◌&&◌, Bool, true, false, List, [], ◌∷◌, ◌++◌, Option, Some, None, not, drop, get_or, map, refl, ap, ◌∙◌, slice_get}
-use Rattle.std.specs.Cmp.Lexicographic.{pointwise}
+use Rattle.std.proofs.Common.{◌≡◌, ℕ, zero, suc, ◌&&◌, ◌||◌, Bool, true, false, List, [], ◌∷◌, ◌++◌, Option, Some, None, not, drop, get_or, map, refl, ap, ◌∙◌, slice_get}
 use Rattle.std.specs.Str.{bytes_eq}
+use Rattle.std.proofs.lemmas.Bool.{and_parts}
 use Rattle.std.proofs.lemmas.Slice.Eq.{bytes_eq-Decides}
 use Rattle.roam_conf.specs.Config.{PeerView, RealmView, ServerView}
 use Rattle.roam_conf.specs.Duplicates.{same_endpoint}
+use Rattle.roam_conf.specs.Lookup.{is_source_of}
 use Rattle.roam_address.specs.declared.address.Address.{Address}
-use Rattle.roam_address.specs.Prefixes.{PrefixView}
-use Rattle.roam_address.specs.Same.{bits_of, same_address, same_prefix}
-use Rattle.roam_address.proofs.LongestLemmas.{key_itself}
+use Rattle.roam_address.specs.Same.{same_address}
 use Rattle.roam_address.proofs.SameLemmas.{address_decides}
 use Rattle.roam_conf.proofs.OneServerLemmas.{same_itself}
-use Rattle.roam_reload.specs.Kept.{Source, both_or_none, home_then, keeps_coa, keeps_requests, keeps_sessions, of_peer, same_server, same_servers, same_source, same_values, server_then, source, stays, takes_reverse}
+use Rattle.roam_reload.specs.Kept.{Source, both_or_none, home_then, KeepsSources, keeps_coa, keeps_request, keeps_secret, keeps_sessions, keeps_source, of_peer, same_server, same_servers, same_source, same_values, server_then, source, stays, takes_reverse}
 use Rattle.roam_reload.specs.Reload.{KeepsPeers, peer_part}
 
 bytes_itself : (xs : List ℕ) → bytes_eq xs xs ≡ true
@@ -34,7 +33,11 @@ both_itself same h (Some x) = h x
 
 server_itself : (s : ServerView) → same_server s s ≡ true
 server_itself s =
-    rw (same_itself s.auth, both_itself same_endpoint same_itself s.acct, bytes_itself s.secret) refl
+    rw (
+      both_itself same_endpoint same_itself s.auth,
+      both_itself same_endpoint same_itself s.acct,
+      bytes_itself s.secret,
+    ) refl
 
 pub servers_itself : (ss : List ServerView) → same_servers ss ss ≡ true
 servers_itself [] = refl
@@ -46,15 +49,13 @@ server_stays ss s = rw (both_itself same_server server_itself (slice_get ss s)) 
 address_itself : (ip : Address) → same_address ip ip ≡ true
 address_itself ip = (address_decides ip ip).1 refl
 
-prefix_itself : (prefix : PrefixView) → same_prefix prefix prefix ≡ true
-prefix_itself prefix = key_itself (bits_of prefix)
-
-ips_itself : (ips : List Address) → pointwise same_address ips ips ≡ true
-ips_itself [] = refl
-ips_itself (ip ∷ ips) = rw (address_itself ip, ips_itself ips) refl
-
 source_itself : (s : Source) → same_source s s ≡ true
-source_itself s = rw (ips_itself s.ips, bytes_itself s.secret) refl
+source_itself s =
+    rw (
+      both_itself same_address address_itself s.ip,
+      both_itself same_address address_itself s.other_ip,
+      bytes_itself s.secret,
+    ) refl
 
 never_closes : (takes : Bool) → (takes && not takes) ≡ false
 never_closes true = refl
@@ -66,10 +67,10 @@ home_stays r ip home =
 
 -- ---- peers
 
-requests_itself : (p : PeerView) → keeps_requests p p ≡ true
-requests_itself p = rw (stays_itself p.gone, prefix_itself p.ip, bytes_itself p.secret) refl
+secret_itself : (p : PeerView) → keeps_secret p p ≡ true
+secret_itself p = rw (stays_itself p.gone, bytes_itself p.secret) refl
 
-coa_itself : (p : PeerView) → keeps_coa p p ≡ true
+pub coa_itself : (p : PeerView) → keeps_coa p p ≡ true
 coa_itself p =
     rw (stays_itself p.gone, both_itself same_endpoint same_itself p.coa, bytes_itself p.secret) refl
 
@@ -86,9 +87,29 @@ kept_at test itself parts (a ∷ old) (b ∷ new) more same zero =
 kept_at test itself parts (a ∷ old) (b ∷ new) more same (suc peer) =
     kept_at test itself parts old new more (ap (λ (ps : List PeerView). drop 1 ps) same) peer
 
+pub secret_stays :
+    (old new : List PeerView) → KeepsPeers old new → (peer : ℕ) → of_peer keeps_secret old new peer ≡ true
+secret_stays old new k peer = kept_at keeps_secret secret_itself (λ a b. refl) old new k.more k.same peer
+
+-- a request that stays is of a peer that does
+pub secret_kept : (old new : List PeerView) (p : ℕ) (ip : Address) → keeps_request old new p ip ≡ true
+    → of_peer keeps_secret old new p ≡ true
+secret_kept old new p ip is = (and_parts (of_peer keeps_secret old new p) (keeps_source old new p ip) is).0
+
+-- where each source stays whose it was, so do a peer's requests
 pub requests_stay :
-    (old new : List PeerView) → KeepsPeers old new → (peer : ℕ) → of_peer keeps_requests old new peer ≡ true
-requests_stay old new k peer = kept_at keeps_requests requests_itself (λ a b. refl) old new k.more k.same peer
+    (old new : List PeerView) → KeepsPeers old new → KeepsSources old new → (peer : ℕ) (ip : Address)
+    → keeps_request old new peer ip ≡ true
+requests_stay old new k sources peer ip =
+    rw (secret_stays old new k peer) (by_source (is_source_of old peer ip) refl)
+  where
+    by_source : (b : Bool) → is_source_of old peer ip ≡ b → (is_source_of new peer ip || not b) ≡ true
+    by_source true was = rw (sources peer ip was) refl
+    by_source false was = by_new (is_source_of new peer ip)
+      where
+        by_new : (b : Bool) → (b || true) ≡ true
+        by_new true = refl
+        by_new false = refl
 
 pub coa_stays :
     (old new : List PeerView) → KeepsPeers old new → (peer : ℕ) → of_peer keeps_coa old new peer ≡ true

@@ -1,3 +1,4 @@
+pub mod AddressLemmas
 pub mod PeerLemmas
 pub mod KindLemmas
 pub mod DifferenceLemmas

@@ -7,7 +7,7 @@ use Rattle.std.specs.List.{flat_map, list_any}
 use Rattle.std.specs.Prelude.{if◌then◌else◌}
 use Rattle.std.specs.Str.{bytes_eq, str_eq_ignore_ascii_case, str_to_ascii_lowercase}
 use Rattle.roam_conf.specs.Config.{PatternView, whole, PeerView, RealmView}
-use Rattle.roam_conf.specs.Duplicates.{has_duplicate_peer, has_duplicate_realm, has_pair, nas_texts, same_peer}
+use Rattle.roam_conf.specs.Duplicates.{has_duplicate_peer, has_duplicate_prefix, has_duplicate_realm, has_pair, nas_texts, same_peer}
 use Rattle.roam_conf.specs.Patterns.{patterns_of, same_pattern}
 use Rattle.roam_reload.specs.Numbers.{same_peer_name, same_realm_name}
 use Rattle.roam_reload.proofs.LayingLemmas.{fewer_pairs}
@@ -69,8 +69,10 @@ closer_peer a b is =
 pub peers_differ : (peers : List PeerView) → has_duplicate_peer peers ≡ false → has_pair same_peer_name peers ≡ false
 unfolding has_duplicate_peer
 peers_differ peers none =
+    let before = (or_parts (has_pair same_peer peers || has_duplicate_prefix peers)
+    (has_pair bytes_eq (nas_texts peers)) none).0 in
     fewer_pairs same_peer same_peer_name closer_peer peers
-    (or_parts (has_pair same_peer peers) (has_pair bytes_eq (nas_texts peers)) none).0
+    (or_parts (has_pair same_peer peers) (has_duplicate_prefix peers) before).0
 
 -- ---- nor two realms, without ASCII case
 

@@ -1,10 +1,11 @@
 -- The causes why a configuration may not follow another, and in which keys the tables at a number differ. Ours.
-use Rattle.std.specs.Prelude.{◌≡◌, ◌≢◌, ℕ, ◌<◌, false, true, List, length, map, slice_get}
+use Rattle.std.specs.Prelude.{◌≡◌, ◌≢◌, ℕ, ◌<◌, false, true, List, length}
 use Rattle.roam_conf.specs.Config.{ConfigView, PeerView, RealmView}
 use Rattle.roam_conf.specs.Duplicates.{is_among}
 use Rattle.roam_address.specs.declared.endpoint.Endpoint.{Endpoint}
+use Rattle.roam_reload.specs.Kept.{same_prefixes}
 use Rattle.roam_reload.specs.Numbers.{KeepsNumbers, is_here}
-use Rattle.roam_reload.specs.Reload.{IsCarried, IsUntouched, endpoints_of, peer_part}
+use Rattle.roam_reload.specs.Reload.{IsCarried, IsKeptAt, IsUntouched, endpoints_of}
 use Rattle.roam_reload.specs.declared.carrying.AfterReload.{AfterReload}
 use Rattle.roam_reload.specs.declared.carrying.AfterReload.TheVariants as after
 use Rattle.roam_reload.specs.declared.hindrance.Hindrance.{Hindrance}
@@ -37,13 +38,14 @@ RealmsDiffer old new realm_key.Share = new.share ≢ old.share
 RealmsDiffer old new realm_key.PeerShare = new.peer_share ≢ old.peer_share
 RealmsDiffer old new realm_key.OwnNames = new.own_names ≢ old.own_names
 RealmsDiffer old new realm_key.Conversations = new.conversations ≢ old.conversations
+RealmsDiffer old new realm_key.Balance = new.by_user ≢ old.by_user
 RealmsDiffer old new realm_key.OwnSessions = new.own_sessions ≢ old.own_sessions
 RealmsDiffer old new realm_key.CoaClients = new.coa_clients ≢ old.coa_clients
 
 abbrev pub PeersDiffer : PeerView → PeerView → PeerKey → Type 0
 PeersDiffer old new peer_key.Gone = new.gone ≢ old.gone
 PeersDiffer old new peer_key.Name = new.name ≢ old.name
-PeersDiffer old new peer_key.Ip = new.ip ≢ old.ip
+PeersDiffer old new peer_key.Ip = same_prefixes old.ips new.ips ≡ false
 PeersDiffer old new peer_key.Secret = new.secret ≢ old.secret
 PeersDiffer old new peer_key.Coa = new.coa ≢ old.coa
 PeersDiffer old new peer_key.NasIp = new.nas_ip ≢ old.nas_ip
@@ -58,7 +60,7 @@ PeersDiffer old new peer_key.ReplyWithout = new.reply_without ≢ old.reply_with
 -- the old peer of an index isn't the new one
 pub record IsOtherPeer (old new : List PeerView) (peer : ℕ) : Type 0 where
   pub there : peer < length old
-  pub differs : slice_get (map peer_part new) peer ≢ slice_get (map peer_part old) peer
+  pub differs : ¬ (IsKeptAt old new peer)
 
 -- what becomes of the realm of a number: it goes on, untouched or not; it begins; it went; or there is none in either
 abbrev pub IsAfterReload : ConfigView → ConfigView → ℕ → AfterReload → Type 0

@@ -26,5 +26,6 @@ pub record HaveSameParts (old new : RealmView) : Type 0 where
   pub peer_share : new.peer_share ≡ old.peer_share
   pub own_names : new.own_names ≡ old.own_names
   pub conversations : new.conversations ≡ old.conversations
+  pub by_user : new.by_user ≡ old.by_user
   pub own_sessions : new.own_sessions ≡ old.own_sessions
   pub coa_clients : new.coa_clients ≡ old.coa_clients

@@ -1,8 +1,6 @@
 -- A source that is looked at where its table lies, as it is seen: words of private functions alone (ours).
-use Rattle.std.specs.Prelude.{◌∷◌}
-use Rattle.std.specs.Option.{option_to_list}
 use Rattle.roam_reload.specs.Kept.{Source}
 use Rattle.roam_reload.specs.declared.sources.SourceRef.{SourceRef}
 
 abbrev pub shown_source : SourceRef → Source
-shown_source s = record { ips = s.ip ∷ option_to_list s.other_ip; secret = s.secret.now }
+shown_source s = record { ip = s.ip; other_ip = s.other_ip; secret = s.secret.now }

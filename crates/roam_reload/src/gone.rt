@@ -7,16 +7,18 @@ ghost use Rattle.roam_reload.specs.Numbers.{gone_peer, gone_realm};
 use roam_conf::{Endpoint, Peer, Realm, SharedSecret};
 use std::alloc::{AllocError, Global};
 
-/// Returns what stands where a peer went: its name and address, which nothing means any more.
+/// Returns what stands where a peer went: its name and addresses, which nothing means any more.
 pub(crate) fn gone_peer(alloc: Global, peer: &Peer) -> Result<Peer, AllocError>
     ensures { IfOk result (λ gone. shown_peer gone ≡ gone_peer (shown_peer peer.now)) }
 {
     let name = String::from_str(alloc, peer.name.as_str())?;
     let secret = SharedSecret::new(alloc, "-")?;
+    let mut ips = Vec::new(alloc);
+    ips.extend_from_slice(peer.ips.as_slice())?;
     Ok(Peer {
         gone: true,
         name,
-        ip: peer.ip,
+        ips,
         secret,
         coa: None,
         nas_ip: None,
@@ -32,7 +34,7 @@ pub(crate) fn gone_peer(alloc: Global, peer: &Peer) -> Result<Peer, AllocError>
     })
 }
 
-/// The same endpoints once more.
+/// Copies the endpoints.
 fn copies_of(alloc: Global, endpoints: &[Endpoint]) -> Result<Vec<Endpoint>, AllocError>
     ensures { IfOk result (λ copies. copies.items ≡ endpoints.now) }
 {
@@ -60,6 +62,7 @@ pub(crate) fn gone_realm(alloc: Global, realm: &Realm) -> Result<Realm, AllocErr
         peer_share: realm.peer_share,
         own_names: realm.own_names,
         conversations: realm.conversations,
+        by_user: realm.by_user,
         own_sessions: realm.own_sessions,
         coa_clients: Vec::new(alloc),
         out,

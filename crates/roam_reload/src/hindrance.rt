@@ -27,7 +27,7 @@ pub enum Hindrance {
     Endpoint(Endpoint),
 }
 
-/// The first of some endpoints, of places of a kind, which is at a place of another kind.
+/// Finds the first of some endpoints, of places of a kind, which is at a place of another kind.
 fn moved_of(endpoints: &[Endpoint], kind: PlaceKind, new: &Config) -> Option<Endpoint>
     ensures { result ≡ find (is_moved (shown new.now) kind) endpoints.now }
 {
@@ -59,7 +59,7 @@ fn keeps_reverse(old: &Realm, nth: usize, new: &Config) -> bool
     }
 }
 
-/// The first `out` of the realm of an index that is at a place of another kind.
+/// Finds the first `out` of the realm of an index that is at a place of another kind.
 fn moved_out_of(old: &Realm, nth: usize, new: &Config) -> Option<Endpoint>
     ensures { result ≡ find (is_moved (shown new.now) kind.Out) old.now.out.items }
 {
@@ -70,7 +70,7 @@ fn moved_out_of(old: &Realm, nth: usize, new: &Config) -> Option<Endpoint>
     moved_of(old.out.as_slice(), PlaceKind::Out, new)
 }
 
-/// The first `reverse` of the realm of an index that is at a place of another kind.
+/// Finds the first `reverse` of the realm of an index that is at a place of another kind.
 fn moved_reverse_of(old: &Realm, nth: usize, new: &Config) -> Option<Endpoint>
     ensures { result ≡ find (is_moved (shown new.now) kind.Reverse) old.now.reverse.items }
 {
@@ -80,7 +80,7 @@ fn moved_reverse_of(old: &Realm, nth: usize, new: &Config) -> Option<Endpoint>
     moved_of(old.reverse.as_slice(), PlaceKind::Reverse, new)
 }
 
-/// The first `out` of those realms that are here which is at a place of another kind.
+/// Finds the first `out`, of the realms that aren't gone, which is at a place of another kind.
 fn moved_out(realms: &[Realm], new: &Config) -> Option<Endpoint>
     ensures { result ≡ find (is_moved (shown new.now) kind.Out)
         (flat_map (λ realm. realm.out) (here (map shown_realm realms.now))) }
@@ -95,7 +95,7 @@ fn moved_out(realms: &[Realm], new: &Config) -> Option<Endpoint>
     None
 }
 
-/// The first `reverse` of those realms that are here which is at a place of another kind.
+/// Finds the first `reverse`, of the realms that aren't gone, which is at a place of another kind.
 fn moved_reverse(realms: &[Realm], new: &Config) -> Option<Endpoint>
     ensures { result ≡ find (is_moved (shown new.now) kind.Reverse)
         (flat_map (λ realm. realm.reverse) (here (map shown_realm realms.now))) }
@@ -110,7 +110,7 @@ fn moved_reverse(realms: &[Realm], new: &Config) -> Option<Endpoint>
     None
 }
 
-/// The first endpoint of the realms' places which is at a place of another kind.
+/// Finds the first endpoint of the realms' places which is at a place of another kind.
 fn moved_of_realms(realms: &[Realm], new: &Config) -> Option<Endpoint>
     ensures { result ≡ option_or
         (find (is_moved (shown new.now) kind.Out) (flat_map (λ realm. realm.out) (here (map shown_realm realms.now))))
@@ -123,7 +123,7 @@ fn moved_of_realms(realms: &[Realm], new: &Config) -> Option<Endpoint>
     }
 }
 
-/// An endpoint that both have, and that isn't at places of one kind.
+/// Finds an endpoint that both configurations have, and that isn't at places of one kind.
 fn moved_endpoint(old: &Config, new: &Config) -> Option<Endpoint>
     ensures none { IfNone result (KeepsKinds (shown old.now) (shown new.now)) }
     ensures some { IfSome result (HasMoved (shown old.now) (shown new.now)) }

@@ -4,7 +4,7 @@ ghost use Rattle.std.specs.Prelude.{◌≡◌, ◌≤◌, length, map, option_ma
 ghost use Rattle.roam_conf.specs.Duplicates.{same_endpoint};
 ghost use Rattle.roam_conf.specs.Lookup.{first_place};
 ghost use Rattle.roam_conf.specs.Parts.{shown_peer, shown_realm, shown_server};
-ghost use Rattle.roam_reload.specs.Kept.{both_or_none, keeps_coa, keeps_requests, keeps_sessions, of_peer};
+ghost use Rattle.roam_reload.specs.Kept.{both_or_none, keeps_coa, keeps_secret, keeps_sessions, of_peer};
 ghost use Rattle.roam_reload.specs.Kept.{same_out, same_outs, same_server, same_servers, server_then, stays};
 
 use roam_conf::{Endpoint, Peer, Realm, Server, is_same_endpoint};
@@ -27,11 +27,11 @@ fn is_same_if_any(a: Option<Endpoint>, b: Option<Endpoint>) -> bool
     }
 }
 
-/// Returns whether the requests of a peer stay.
-fn keeps_requests(old: &Peer, new: &Peer) -> bool
-    ensures { result ≡ keeps_requests (shown_peer old.now) (shown_peer new.now) }
+/// Returns whether a peer that was here still is, with the same secret.
+fn keeps_secret(old: &Peer, new: &Peer) -> bool
+    ensures { result ≡ keeps_secret (shown_peer old.now) (shown_peer new.now) }
 {
-    stays(old, new) && old.ip.leading() == new.ip.leading() && old.secret == new.secret
+    stays(old, new) && old.secret == new.secret
 }
 
 /// Returns whether what waits at a peer's `coa` stays.
@@ -41,19 +41,19 @@ fn keeps_coa(old: &Peer, new: &Peer) -> bool
     stays(old, new) && is_same_if_any(old.coa, new.coa) && old.secret == new.secret
 }
 
-/// The peer of an index.
+/// Returns the peer of an index, where there is one.
 fn peer_at(peers: &[Peer], peer: u16) -> Option<&Peer>
     ensures { option_map (λ p. shown_peer p.now) result ≡ slice_get (map shown_peer peers.now) peer }
 {
     peers.get(usize::from(peer))
 }
 
-/// Returns whether the requests of the peer of an index stay.
-pub fn peer_keeps_requests(old: &[Peer], new: &[Peer], peer: u16) -> bool
-    ensures { result ≡ of_peer keeps_requests (map shown_peer old.now) (map shown_peer new.now) peer }
+/// Returns whether the peer of an index still is here, with the same secret: without that none of its requests stays.
+pub fn peer_keeps_secret(old: &[Peer], new: &[Peer], peer: u16) -> bool
+    ensures { result ≡ of_peer keeps_secret (map shown_peer old.now) (map shown_peer new.now) peer }
 {
     match (peer_at(old, peer), peer_at(new, peer)) {
-        (Some(old), Some(new)) => keeps_requests(old, new),
+        (Some(old), Some(new)) => keeps_secret(old, new),
         (None, _) => true,
         (Some(_), None) => false,
     }
@@ -85,10 +85,10 @@ pub fn peer_keeps_sessions(old: &[Peer], new: &[Peer], peer: u16) -> bool
 fn is_same_server(a: &Server, b: &Server) -> bool
     ensures { result ≡ same_server (shown_server a.now) (shown_server b.now) }
 {
-    is_same_endpoint(a.auth, b.auth) && is_same_if_any(a.acct, b.acct) && a.secret == b.secret
+    is_same_if_any(a.auth, b.auth) && is_same_if_any(a.acct, b.acct) && a.secret == b.secret
 }
 
-/// The server of a place.
+/// Returns the server of a place, where there is one.
 fn server_at(servers: &[Server], server: u8) -> Option<&Server>
     ensures { option_map (λ s. shown_server s.now) result ≡ slice_get (map shown_server servers.now) server }
 {
@@ -122,7 +122,7 @@ pub fn has_same_servers(old: &Realm, new: &Realm) -> bool
     true
 }
 
-/// The first place of a server.
+/// Finds the first place of a server.
 fn place_of(server: &Server, servers: &[Server]) -> Option<u8>
     requires { length servers.now ≤ 8 }
     ensures { result ≡ first_place (same_server (shown_server server.now)) (map shown_server servers.now) }
@@ -135,7 +135,7 @@ fn place_of(server: &Server, servers: &[Server]) -> Option<u8>
     None
 }
 
-/// The place where a server of the old realm stands in the new one, if it does.
+/// Returns the place where a server of the old realm stands in the new one, if it does.
 pub fn server_then(old: &Realm, new: &Realm, server: u8) -> Option<u8>
     ensures { result ≡ server_then (shown_realm old.now).servers (shown_realm new.now).servers server }
 {
@@ -148,7 +148,7 @@ pub fn server_then(old: &Realm, new: &Realm, server: u8) -> Option<u8>
     }
 }
 
-/// The `out` of a place.
+/// Returns the `out` of a place, where there is one.
 fn out_at(realm: &Realm, out: u8) -> Option<Endpoint>
     ensures { result ≡ slice_get (shown_realm realm.now).out out }
 {

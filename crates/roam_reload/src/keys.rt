@@ -25,6 +25,7 @@ pub enum RealmKey {
     PeerShare,
     OwnNames,
     Conversations,
+    Balance,
     OwnSessions,
     /// The tables `coa_client`: their number, their order, or any of their keys.
     CoaClients,
@@ -51,7 +52,7 @@ pub enum PeerKey {
 }
 
 /// All keys of a realm's table, in the order in which they are told.
-pub const REALM_KEYS: [RealmKey; 21] = [
+pub const REALM_KEYS: [RealmKey; 22] = [
     RealmKey::Out,
     RealmKey::Reverse,
     RealmKey::Servers,
@@ -63,6 +64,7 @@ pub const REALM_KEYS: [RealmKey; 21] = [
     RealmKey::ReplyWithout,
     RealmKey::OwnNames,
     RealmKey::Conversations,
+    RealmKey::Balance,
     RealmKey::OwnSessions,
     RealmKey::Tries,
     RealmKey::Wait,
@@ -76,7 +78,7 @@ pub const REALM_KEYS: [RealmKey; 21] = [
 ];
 
 impl RealmKey {
-    /// The key as it is written in a configuration.
+    /// Returns the key as it is written in a configuration.
     pub fn name(self) -> &'static str {
         match self {
             RealmKey::Gone => "gone",
@@ -99,6 +101,7 @@ impl RealmKey {
             RealmKey::PeerShare => "peer_share",
             RealmKey::OwnNames => "own_names",
             RealmKey::Conversations => "conversations",
+            RealmKey::Balance => "balance",
             RealmKey::OwnSessions => "own_sessions",
             RealmKey::CoaClients => "coa_client",
         }
@@ -106,7 +109,7 @@ impl RealmKey {
 }
 
 impl PeerKey {
-    /// The key as it is written in a configuration.
+    /// Returns the key as it is written in a configuration.
     pub fn name(self) -> &'static str {
         match self {
             PeerKey::Gone => "gone",

@@ -2,8 +2,8 @@
 
 ghost use Rattle.roam_reload.specs.Numbers.{LaidOutHoldsFile, LaidOutKeepsNumbers};
 
-/// In a configuration that is laid out by another one each index is the same realm's, or the same peer's, or its
-/// place is empty.
+/// States that in a configuration that is laid out by another one each index is the same realm's, or the same peer's,
+/// or its place is empty.
 pub fn laid_out_keeps_numbers()
     ensures { LaidOutKeepsNumbers }
 {}

@@ -30,7 +30,7 @@ impl From<AllocError> for LayFault {
 /// The highest number that realms, or peers, have.
 const MOST: usize = 1024;
 
-/// `Numbers` where there are more peers or realms than have a number.
+/// Checks that each peer and each realm has a number. Errs with `Numbers` where there are more.
 fn have_numbers(peers: usize, realms: usize) -> Result<(), LayFault>
     ensures ok { OnOk result ((peers ≤ 1024) × (realms ≤ 1024)) }
     ensures err { OnErr result ((1024 < peers) ⊎ (1024 < realms)) }
@@ -42,7 +42,7 @@ fn have_numbers(peers: usize, realms: usize) -> Result<(), LayFault>
     }
 }
 
-/// A configuration laid out by the one which it is to follow, and with that one's seed.
+/// Lays a configuration out by the one which it is to follow, and gives it that one's seed.
 ///
 /// # Errors
 ///

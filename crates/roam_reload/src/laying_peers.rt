@@ -14,7 +14,7 @@ use crate::numbers::is_same_peer;
 use roam_conf::Peer;
 use std::alloc::{AllocError, Global};
 
-/// Each table in a slot of its own.
+/// Puts each table into a slot of its own.
 fn slots_of(alloc: Global, peers: Vec<Peer>) -> Result<Vec<Option<Peer>>, AllocError>
     ensures { IfOk result (λ slots. peers_in slots.items ≡ all_in (map shown_peer peers.items)) }
 {
@@ -35,7 +35,7 @@ fn holds(slot: &Option<Peer>, peer: &Peer) -> bool
     }
 }
 
-/// The first slot that has it.
+/// Finds the first slot that has the table of the same peer.
 fn slot_with(slots: &[Option<Peer>], peer: &Peer) -> Option<usize>
     ensures value { result
         ≡ first_place (slot_holds (same_peer_name (shown_peer peer.now))) (peers_in slots.now) }
@@ -98,7 +98,7 @@ fn put_tables(laid: &mut Vec<Peer>, slots: Vec<Option<Peer>>) -> Result<(), Allo
     Ok(())
 }
 
-/// The peers laid out by older ones.
+/// Lays the peers out by older ones.
 pub(crate) fn laid_peers(
     alloc: Global,
     old: &[Peer],

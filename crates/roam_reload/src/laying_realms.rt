@@ -14,7 +14,7 @@ use crate::numbers::is_same_realm;
 use roam_conf::Realm;
 use std::alloc::{AllocError, Global};
 
-/// Each table in a slot of its own.
+/// Puts each table into a slot of its own.
 fn slots_of(alloc: Global, realms: Vec<Realm>) -> Result<Vec<Option<Realm>>, AllocError>
     ensures { IfOk result (λ slots. realms_in slots.items ≡ all_in (map shown_realm realms.items)) }
 {
@@ -35,7 +35,7 @@ fn holds(slot: &Option<Realm>, realm: &Realm) -> bool
     }
 }
 
-/// The first slot that has it.
+/// Finds the first slot that has the table of the same realm.
 fn slot_with(slots: &[Option<Realm>], realm: &Realm) -> Option<usize>
     ensures value { result
         ≡ first_place (slot_holds (same_realm_name (shown_realm realm.now))) (realms_in slots.now) }
@@ -102,7 +102,7 @@ fn put_tables(laid: &mut Vec<Realm>, slots: Vec<Option<Realm>>) -> Result<(), Al
     Ok(())
 }
 
-/// The realms laid out by older ones.
+/// Lays the realms out by older ones.
 pub(crate) fn laid_realms(
     alloc: Global,
     old: &[Realm],

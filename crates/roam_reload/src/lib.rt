@@ -11,9 +11,8 @@
 //!   stands in the file | `lay_out`, laws `laid_out_keeps_numbers`, `laid_out_holds_file`
 //! - which realms go on, which of them are untouched, which begin and which went; whether it may follow, and if not,
 //!   why | `after_reload`, `is_carried`, `is_untouched`, `hindrance_of`
-//! - whether a peer's requests, what waits at its `coa` and its sessions stay; where a server stands then, and a
-//!   source of reverse requests | `peer_keeps_requests`, `peer_keeps_coa`, `peer_keeps_sessions`, `server_then`,
-//!   `home_then`
+//! - whether a peer's secret, what waits at its `coa` and its sessions stay; where a server stands then, and a source
+//!   of reverse requests | `peer_keeps_secret`, `peer_keeps_coa`, `peer_keeps_sessions`, `server_then`, `home_then`
 #![tactic(auto)]
 
 mod carrying;
@@ -28,13 +27,14 @@ mod laying_peers;
 mod laying_realms;
 mod numbers;
 mod peers;
+mod prefixes;
 mod realms;
 mod sources;
 
 pub use carrying::{AfterReload, after_reload, is_carried, is_here, is_untouched};
 pub use hindrance::{Hindrance, hindrance_of};
 pub use kept::{
-    has_same_outs, has_same_servers, is_same_out, peer_keeps_coa, peer_keeps_requests,
+    has_same_outs, has_same_servers, is_same_out, peer_keeps_coa, peer_keeps_secret,
     peer_keeps_sessions, server_then,
 };
 pub use keys::{PeerKey, REALM_KEYS, RealmKey};

@@ -1,23 +1,25 @@
 //! The peers that aren't the same in two configurations, and in which key.
 
-ghost use Rattle.std.specs.Prelude.{◌≡◌, IfNone, IfSome, map};
+ghost use Rattle.std.specs.Prelude.{IfNone, IfSome, map};
 ghost use Rattle.roam_conf.specs.Parts.{shown_peer};
 ghost use Rattle.roam_reload.specs.Differences.{IsOtherPeer, PeersDiffer};
-ghost use Rattle.roam_reload.specs.Reload.{KeepsPeers, peer_part};
+ghost use Rattle.roam_reload.specs.Reload.{IsSamePeer, KeepsPeers};
 
 use crate::keys::PeerKey;
+use crate::prefixes::has_same_prefixes;
 use roam_conf::Peer;
 
-/// The first key in which two tables of a peer differ, its `require_seal` and `limit_proxy_state` aside.
+/// Returns the first key in which two tables of a peer differ, its `require_seal` and `limit_proxy_state` and the order of its
+/// addresses aside.
 pub fn peer_difference(old: &Peer, new: &Peer) -> Option<PeerKey>
-    ensures none { IfNone result (peer_part (shown_peer new.now) ≡ peer_part (shown_peer old.now)) }
+    ensures none { IfNone result (IsSamePeer (shown_peer old.now) (shown_peer new.now)) }
     ensures some { IfSome result (PeersDiffer (shown_peer old.now) (shown_peer new.now)) }
 {
     if old.gone != new.gone {
         Some(PeerKey::Gone)
     } else if old.name != new.name {
         Some(PeerKey::Name)
-    } else if old.ip != new.ip {
+    } else if !has_same_prefixes(old, new) {
         Some(PeerKey::Ip)
     } else if old.secret != new.secret {
         Some(PeerKey::Secret)
@@ -44,8 +46,8 @@ pub fn peer_difference(old: &Peer, new: &Peer) -> Option<PeerKey>
     }
 }
 
-/// The first of the old peers that the new ones don't have at its index, or have there with another table, its
-/// `require_seal` and `limit_proxy_state` aside.
+/// Finds the first of the old peers that the new ones don't have at its index, or have there with another table. A
+/// different `require_seal` or `limit_proxy_state` doesn't count.
 pub fn other_peer(old: &[Peer], new: &[Peer]) -> Option<usize>
     ensures none { IfNone result (KeepsPeers (map shown_peer old.now) (map shown_peer new.now)) }
     ensures some { IfSome result (IsOtherPeer (map shown_peer old.now) (map shown_peer new.now)) }

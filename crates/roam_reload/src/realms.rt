@@ -9,7 +9,7 @@ ghost use Rattle.roam_reload.specs.SameLimits.{HaveSameLimits, HaveSameParts, Ha
 use crate::keys::RealmKey;
 use roam_conf::Realm;
 
-/// The first key of a realm's times and limits in which two tables differ.
+/// Returns the first key of a realm's times and limits in which two tables differ.
 fn limit_difference(old: &Realm, new: &Realm) -> Option<RealmKey>
     ensures none { IfNone result (HaveSameLimits (shown_realm old.now) (shown_realm new.now)) }
     ensures some { IfSome result (RealmsDiffer (shown_realm old.now) (shown_realm new.now)) }
@@ -33,8 +33,8 @@ fn limit_difference(old: &Realm, new: &Realm) -> Option<RealmKey>
     }
 }
 
-/// The first key in which two tables differ of who may ask a realm, of what becomes of its accounting, of what is taken
-/// out of its packets, and of the share of a name.
+/// Returns the first key in which two tables differ of who may ask a realm, of what becomes of its accounting, of
+/// what is taken out of its packets, and of the share of a name.
 fn policy_difference(old: &Realm, new: &Realm) -> Option<RealmKey>
     ensures none { IfNone result (HaveSamePolicy (shown_realm old.now) (shown_realm new.now)) }
     ensures some { IfSome result (RealmsDiffer (shown_realm old.now) (shown_realm new.now)) }
@@ -56,7 +56,7 @@ fn policy_difference(old: &Realm, new: &Realm) -> Option<RealmKey>
     }
 }
 
-/// The first key in which two tables differ of what a realm's peers and home servers may do.
+/// Returns the first key in which two tables differ of what a realm's peers and home servers may do.
 fn part_difference(old: &Realm, new: &Realm) -> Option<RealmKey>
     ensures none { IfNone result (HaveSameParts (shown_realm old.now) (shown_realm new.now)) }
     ensures some { IfSome result (RealmsDiffer (shown_realm old.now) (shown_realm new.now)) }
@@ -67,6 +67,8 @@ fn part_difference(old: &Realm, new: &Realm) -> Option<RealmKey>
         Some(RealmKey::OwnNames)
     } else if old.conversations != new.conversations {
         Some(RealmKey::Conversations)
+    } else if old.by_user != new.by_user {
+        Some(RealmKey::Balance)
     } else if old.own_sessions != new.own_sessions {
         Some(RealmKey::OwnSessions)
     } else if old.coa_clients != new.coa_clients {
@@ -76,7 +78,7 @@ fn part_difference(old: &Realm, new: &Realm) -> Option<RealmKey>
     }
 }
 
-/// The first key in which two tables of a realm differ beside its sockets and servers.
+/// Returns the first key in which two tables of a realm differ beside its sockets and servers.
 fn other_difference(old: &Realm, new: &Realm) -> Option<RealmKey>
     ensures none { IfNone result (HaveSamePolicy (shown_realm old.now) (shown_realm new.now)
         × (HaveSameParts (shown_realm old.now) (shown_realm new.now)
@@ -92,7 +94,7 @@ fn other_difference(old: &Realm, new: &Realm) -> Option<RealmKey>
     }
 }
 
-/// The first key in which two tables of a realm differ, its `name` and `also` aside.
+/// Returns the first key in which two tables of a realm differ, except `name` and `also`.
 pub fn realm_difference(old: &Realm, new: &Realm) -> Option<RealmKey>
     ensures none { IfNone result (realm_part (shown_realm new.now) ≡ realm_part (shown_realm old.now)) }
     ensures some { IfSome result (RealmsDiffer (shown_realm old.now) (shown_realm new.now)) }
@@ -135,6 +137,7 @@ pub fn is_other_in(old: &Realm, new: &Realm, key: RealmKey) -> bool
         RealmKey::PeerShare => old.peer_share != new.peer_share,
         RealmKey::OwnNames => old.own_names != new.own_names,
         RealmKey::Conversations => old.conversations != new.conversations,
+        RealmKey::Balance => old.by_user != new.by_user,
         RealmKey::OwnSessions => old.own_sessions != new.own_sessions,
         RealmKey::CoaClients => old.coa_clients != new.coa_clients,
     }

@@ -4,29 +4,35 @@ ghost use Rattle.std.specs.Prelude.{◌≡◌, option_map};
 ghost use Rattle.roam_conf.specs.Parts.{shown_client, shown_realm, shown_server};
 ghost use Rattle.roam_conf.specs.Secrets.{home_secret};
 ghost use Rattle.roam_reload.specs.Kept.{both_or_none, client_source, closes_reverse, home_at, home_then, same_source};
-ghost use Rattle.roam_reload.specs.Kept.{server_source, source, takes_reverse};
+ghost use Rattle.roam_reload.specs.Kept.{ip_of, server_source, source, takes_reverse};
 ghost use Rattle.roam_reload.specs.Sources.{shown_source};
 
-use roam_conf::{Address, CoaClient, Realm, Server};
+use roam_conf::{Address, CoaClient, Endpoint, Realm, Server};
 
-/// A source of reverse requests: its addresses, and the secret shared with it.
+/// A source of reverse requests: its address or those of its `auth` and of its `acct`, and the secret shared with it.
 #[derive(Clone, Copy)]
 struct SourceRef<'a> {
-    ip: Address,
+    ip: Option<Address>,
     other_ip: Option<Address>,
     secret: &'a [u8],
+}
+
+/// Returns the address of an endpoint that may be there.
+fn ip_of(endpoint: Option<Endpoint>) -> Option<Address>
+    ensures { result ≡ ip_of endpoint }
+{
+    match endpoint {
+        Some(endpoint) => Some(endpoint.ip),
+        None => None,
+    }
 }
 
 fn server_source(server: &Server) -> SourceRef<'_>
     ensures { shown_source result ≡ server_source (shown_server server.now) }
 {
-    let other_ip = match server.acct {
-        Some(acct) => Some(acct.ip),
-        None => None,
-    };
     SourceRef {
-        ip: server.auth.ip,
-        other_ip,
+        ip: ip_of(server.auth),
+        other_ip: ip_of(server.acct),
         secret: server.secret().octets(),
     }
 }
@@ -35,13 +41,13 @@ fn client_source(client: &CoaClient) -> SourceRef<'_>
     ensures { shown_source result ≡ client_source (shown_client client.now) }
 {
     SourceRef {
-        ip: client.ip,
+        ip: Some(client.ip),
         other_ip: None,
         secret: client.secret().octets(),
     }
 }
 
-/// The source of a number: a server or, behind the servers, a `coa_client`.
+/// Returns the source of a number: a server or, behind the servers, a `coa_client`.
 fn source_of(realm: &Realm, home: u8) -> Option<SourceRef<'_>>
     ensures { option_map shown_source result ≡ source (shown_realm realm.now) home }
 {
@@ -83,7 +89,7 @@ fn closes_reverse(old: &Realm, new: &Realm) -> bool
     takes_reverse(old) && !takes_reverse(new)
 }
 
-/// The secret shared with the source of a number; none of its octets where there is no such source.
+/// Returns the secret shared with the source of a number, and no octets where there is no such source.
 fn secret_of(realm: &Realm, home: u8) -> &[u8]
     ensures { result.now ≡ home_secret (shown_realm realm.now) home }
 {
@@ -93,7 +99,7 @@ fn secret_of(realm: &Realm, home: u8) -> &[u8]
     }
 }
 
-/// The source at an address, if the secret shared with it is that of a source of the old realm.
+/// Finds the source at an address, if the secret shared with it is that of a source of the old realm.
 fn home_at(old: &Realm, new: &Realm, ip: Address, home: u8) -> Option<u8>
     ensures { result ≡ home_at (shown_realm new.now) ip (home_secret (shown_realm old.now) home) }
 {
@@ -105,8 +111,8 @@ fn home_at(old: &Realm, new: &Realm, ip: Address, home: u8) -> Option<u8>
     }
 }
 
-/// The source of the new realm that a source of the old one is, whose request came from this address; none where its
-/// requests don't stay.
+/// Finds the source of the new realm that a source of the old one is, whose request came from this address. Returns
+/// `None` where its requests don't stay.
 pub fn home_then(old: &Realm, new: &Realm, ip: Address, home: u8) -> Option<u8>
     ensures { result ≡ home_then (shown_realm old.now) (shown_realm new.now) ip home }
 {

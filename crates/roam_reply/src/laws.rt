@@ -12,7 +12,7 @@ ghost use Rattle.roam_reply.specs.ReturnedLaws.{ReturnedIsPacket, ReturnedReads,
 ghost use Rattle.roam_reply.specs.ReturnedLaws.{ReturnedIsWellSealed, AccessIsSealed, AccessReplyHasSealFirst};
 ghost use Rattle.roam_reply.specs.ReturnedLaws.{CodeIsTheReplys, IdentifierIsTheRequests, ProxyStatesAreTheRequests};
 
-/// The tests of a reply find no fault just where it is taken (RFC 2865, section 2.3).
+/// States that the tests of a reply find no fault just where it is taken (RFC 2865, section 2.3).
 pub fn taken_replies()
     ensures { TakenHasNoFault }
 {}
@@ -24,7 +24,8 @@ pub fn returned_reads()
     ensures length { ReturnedHasLength }
 {}
 
-/// It is signed and sealed for the requester (RFC 2865 section 3, RFC 3579 section 3.2).
+/// States that a returned packet is signed for the requester, and has the right Message-Authenticator (RFC 2865
+/// section 3, RFC 3579 section 3.2).
 pub fn returned_authenticators()
     ensures signed { ReturnedIsSigned }
     ensures well_sealed { ReturnedIsWellSealed }
@@ -32,8 +33,8 @@ pub fn returned_authenticators()
     ensures access_first { AccessReplyHasSealFirst }
 {}
 
-/// It has the reply's code, the request's Identifier, and the request's Proxy-States (RFC 2865,
-/// section 2.3).
+/// States that a returned packet has the reply's code, the request's Identifier, and the request's Proxy-States (RFC
+/// 2865, section 2.3).
 pub fn returned_to_the_requester()
     ensures code { CodeIsTheReplys }
     ensures id { IdentifierIsTheRequests }
@@ -60,7 +61,7 @@ pub fn passing_replies()
     ensures other_attributes { OtherAttributesPass }
 {}
 
-/// A NAK is a packet of the stated size, which reads (RFC 2865, section 3).
+/// States that a NAK is a packet of the stated size, which reads (RFC 2865, section 3).
 pub fn nak_reads()
     ensures packet { NakIsPacket }
     ensures reads { NakReads }
@@ -68,14 +69,14 @@ pub fn nak_reads()
     ensures short { NakIsShort }
 {}
 
-/// It answers its request, and is signed for the home server (RFC 5176, section 2.3).
+/// States that a NAK answers its request, and is signed for the home server (RFC 5176, section 2.3).
 pub fn nak_answers()
     ensures code { NakAnswers }
     ensures id { NakHasIdentifier }
     ensures signed { NakIsSigned }
 {}
 
-/// It carries one Error-Cause and the request's Proxy-States, and nothing else (RFC 5176, sections 2.3
+/// States that a NAK carries one Error-Cause and the request's Proxy-States, and nothing else (RFC 5176, sections 2.3
 /// and 3.5).
 pub fn nak_carries()
     ensures one_cause { NakHasOneCause }

@@ -16,7 +16,7 @@ use roam_wire::writing::{append_attribute, append_header, append_proxy_states, p
 use roam_wire::{Attr, NoMemory, View};
 use std::alloc::Allocator;
 
-/// The code that refuses a Disconnect-Request, or else a CoA-Request (RFC 5176, section 2.3).
+/// Returns the code that refuses a Disconnect-Request, or else a CoA-Request (RFC 5176, section 2.3).
 fn nak_code(request: u8) -> u8
     ensures { result ≡ nak_code request }
 {
@@ -27,7 +27,7 @@ fn nak_code(request: u8) -> u8
     }
 }
 
-/// The size of a request's NAK, in octets, at most six more than the request has: the header, the
+/// Computes the size of a request's NAK, in octets, at most six more than the request has: the header, the
 /// Error-Cause, the Proxy-States. Takes no memory.
 pub fn nak_len(request: &View<'_>) -> usize
     ensures size { result ≡ nak_length request.now }
@@ -109,9 +109,9 @@ pub fn nak_reserved<A: Allocator>(
     sign_from(out, start, request.authenticator(), secret);
 }
 
-/// The NAK that refuses a Disconnect-Request or a CoA-Request (RFC 5176, section 2.3): an Error-Cause
-/// of this number, and the request's Proxy-States, signed with the home server's secret, of 1 to 64
-/// octets. Its room is asked for at once.
+/// Makes the NAK that refuses a Disconnect-Request or a CoA-Request (RFC 5176, section 2.3): an Error-Cause of this
+/// number, and the request's Proxy-States, signed with the home server's secret, of 1 to 64 octets. Asks for its room
+/// at once.
 pub fn nak<A: Allocator>(
     alloc: A,
     request: &View<'_>,

@@ -11,7 +11,7 @@ use roam_wire::attribute_type::USER_NAME;
 use roam_wire::code::ACCESS_ACCEPT;
 use roam_wire::{Attr, View};
 
-/// The name part of a packet.
+/// Returns the name part of a packet.
 fn name_part<'a>(packet: &View<'a>) -> Option<&'a [u8]>
     ensures { option_map (λ part. part.now) result ≡ name_part packet.now }
 {

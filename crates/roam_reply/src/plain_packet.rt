@@ -70,7 +70,7 @@ fn carried_len(reply: &View<'_>, terms: Passing<'_, '_>) -> usize
     size
 }
 
-/// The size of the packet that is returned, in octets: the header, a Message-Authenticator in an Access
+/// Computes the size of the packet that is returned, in octets: the header, a Message-Authenticator in an Access
 /// reply, the reply's attributes that pass and are returned, the request's Proxy-States.
 pub(crate) fn returned_len(reply: &View<'_>, request: &View<'_>, returning: &Returning<'_>) -> usize
     ensures plain { result ≡ packet_length (plain_packet

@@ -60,7 +60,7 @@ fn seal_for_requester(
     seal_and_sign(octets, returning.client_secret, request.authenticator());
 }
 
-/// The same, for the octets of a buffer from one on.
+/// Makes the returned packet of the octets of a buffer from `start` on, in place.
 fn seal_appended<A: Allocator>(
     out: &mut Vec<u8, A>,
     start: usize,

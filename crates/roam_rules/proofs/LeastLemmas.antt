@@ -11,7 +11,8 @@ use Rattle.roam_sessions.specs.declared.error_cause.TheConstants.{OTHER_PROXY_PR
 use Rattle.roam_pending.proofs.OrderLemmas.{order-put, order-filter, without-absent}
 use Rattle.roam_pending.proofs.ChangeLemmas.{found-ticket, put-without}
 use Rattle.roam_pending.proofs.DueListLemmas.{due-taken, due-put}
-use Rattle.roam_realm.specs.RealmConfig.{RealmConfig, later_targets}
+use Rattle.roam_realm.specs.RealmConfig.{RealmConfig}
+use Rattle.roam_realm.specs.ServerOrder.{later_targets}
 use Rattle.roam_realm.specs.RealmState.{RealmState, Target, chosen_target}
 use Rattle.roam_realm.specs.Rests.{after_choice, after_silence, signs_of}
 use Rattle.roam_exchange.specs.OnRequest.{forwarded_entry, is_reverse, nak_octets}
@@ -83,7 +84,7 @@ rest-standing c now s e (waiting l id forwarded sends_left deadline signs) wait 
       | inr n ↦
           let rests = after_silence c now s.rests l signs in
           let counted : RealmState = record s { rests = rests } in
-          let next = chosen_target c now rests s.cursors (without e.ticket s.entries) (later_targets c l) in
+          let next = chosen_target c now rests s.cursors (without e.ticket s.entries) (later_targets c e.request l) in
           rw n (rest-failed c now counted e next wait order)
     ]
 

@@ -1,5 +1,6 @@
 pub mod AdmissionLemmas
 pub mod AdmitPlanLemmas
+pub mod BalanceLemmas
 pub mod BookLemmas
 pub mod ClearLemmas
 pub mod ConversingLemmas

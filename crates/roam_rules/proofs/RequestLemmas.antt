@@ -18,6 +18,7 @@ use Rattle.roam_realm.specs.Conversing.{bound_target, new_target, rests_by, rest
 use Rattle.roam_exchange.specs.Shares.{share_taken}
 use Rattle.roam_exchange.specs.OnRequest.{at_target, coa_links, held_reply, is_reverse, new_request, of_key, targets}
 use Rattle.roam_realm.specs.RealmConfig.{RealmConfig, IsLink, service_of}
+use Rattle.roam_realm.specs.ServerOrder.{server_order}
 use Rattle.roam_realm.specs.RealmState.{RealmState, Target, next_toward, with_rests}
 use Rattle.roam_rules.specs.Replacing.{CountsAsReplaced, replaced_ticket}
 use Rattle.roam_realm.specs.Sound.{IsSound, cursors_of, standing_place, state_of}
@@ -26,7 +27,8 @@ use Rattle.roam_rules.specs.declared.rules.replaced.Replaced.{Replaced}
 use Rattle.roam_realm.specs.declared.realm_numbers.RealmNumbers.{RealmNumbers}
 use Rattle.roam_rules.proofs.ConversingLemmas.{bound-is, new-next, way-is}
 use Rattle.roam_realm.proofs.TargetLemmas.{target-within}
-use Rattle.roam_realm.proofs.WaysToLemmas.{links-are, peer-ways-are}
+use Rattle.roam_realm.proofs.OrderLemmas.{links-are}
+use Rattle.roam_realm.proofs.WaysToLemmas.{peer-ways-are}
 
 -- the target is the link that was chosen, with its next free Identifier
 target_of : Link → ℕ → Target
@@ -70,7 +72,8 @@ targets-links : (c : RealmConfig) (q : PlainRequest) → AllByRecursion (IsLink 
 targets-links c q =
     elim (cases_Bool (is_reverse q)) [
       | inl y ↦ rw y (coa-links c _ (target-within c.peers (packet_of q.octets).attributes))
-      | inr n ↦ rw n (links-are c (service_of (packet_of q.octets).code) 0)
+      | inr n ↦ rw n (links-are c (service_of (packet_of q.octets).code)
+          (server_order c (service_of (packet_of q.octets).code) q))
     ]
 
 targets-way :

@@ -1,6 +1,7 @@
 -- The specification of the proxy of one realm, in the order in which it is read.
 pub mod LeastFirst
 pub mod Silence
+pub mod Balance
 -- The words of the contracts of public calls beside that.
 pub mod BookView
 pub mod LostTicks

@@ -54,7 +54,7 @@ impl<'c, A: Allocator> Model for Book<'c, A> {
     ghost invariant = { λ b. IsBook b.config.now b.realm b.entries b.numbers };
 }
 
-/// A job of these octets as a request of its realm.
+/// Returns a job of these octets as a request of its realm.
 pub fn request_of_job<'a, A: Allocator>(
     settings: &RealmSettings<'_>,
     job: &Job<A>,
@@ -85,7 +85,7 @@ pub fn request_of_job<'a, A: Allocator>(
     }
 }
 
-/// The link from which a reply came.
+/// Returns the link from which a reply came.
 fn link_of(side: Side) -> Link
     requires { is_link side ≡ true }
     ensures { side ≡ Side.Link result }
@@ -97,8 +97,8 @@ fn link_of(side: Side) -> Link
 }
 
 impl<'c, A: Allocator + Copy> Book<'c, A> {
-    /// The book of the realm of an index, which is configured: no request is pending, and the place in
-    /// the stream of random words and the next ticket are those of the start.
+    /// Makes the book of the realm of an index, which is configured: no request is pending, and the place in the
+    /// stream of random words and the next ticket are those of the start.
     pub fn new(
         alloc: A,
         config: &'c Config,
@@ -135,12 +135,11 @@ impl<'c, A: Allocator + Copy> Book<'c, A> {
         self.numbers.start()
     }
 
-    /// A request of the realm, at a moment in milliseconds (RFC 2865, section 2.3): a duplicate, a
-    /// reverse request that is answered by a NAK (RFC 5176, section 3.5), or a new one that is
-    /// forwarded.
+    /// Takes a request of the realm, at a moment in milliseconds (RFC 2865, section 2.3): a duplicate, a Disconnect-
+    /// or CoA-Request that is answered by a NAK (RFC 5176, section 3.5), or a new one that is forwarded.
     ///
-    /// Refused in this order: `Moment`, `Exhausted`, `NoIdentifier`, `Busy`. `NoMemory` comes where a
-    /// growth was refused; the book is then as it was. Where no packet is sent no memory is wanted.
+    /// Refused in this order: `Moment`, `Exhausted`, `NoIdentifier`, `Busy`. `NoMemory` comes where a growth was
+    /// refused; the book is then as it was. Where no packet is sent no memory is wanted.
     pub fn request(&mut self, now: u64, job: &Job<A>) -> Result<Answer<A>, NoMemory>
         requires event { IsEvent self.old.config (shown_job job.now) }
         requires own { job.now.realm ≡ self.old.realm }
@@ -163,12 +162,12 @@ impl<'c, A: Allocator + Copy> Book<'c, A> {
         answer_of(realm.on_request(now, request))
     }
 
-    /// A reply from a link of the realm, at a moment in milliseconds (RFC 2865, section 2.3): it is
-    /// returned to the sender of the request, and held until `now + hold`.
+    /// Takes a reply from a link of the realm, at a moment in milliseconds (RFC 2865, section 2.3): it is returned to
+    /// the sender of the request, and held until `now + hold`.
     ///
-    /// Refused in this order: `Moment`, `NoEntry`, `WrongReply`, `BadReply`,
-    /// `BadReplyMessageAuthenticator`, `ReplyTooLong`. `NoMemory` comes where a growth was refused; the
-    /// book is then as it was. A refused reply wants no memory.
+    /// Refused in this order: `Moment`, `NoEntry`, `WrongReply`, `BadReply`, `BadReplyMessageAuthenticator`,
+    /// `ReplyTooLong`. `NoMemory` comes where a growth was refused; the book is then as it was. A refused reply wants
+    /// no memory.
     pub fn reply(&mut self, now: u64, job: &Job<A>) -> Result<Answer<A>, NoMemory>
         requires event { IsEvent self.old.config (shown_job job.now) }
         requires own { job.now.realm ≡ self.old.realm }
@@ -192,7 +191,7 @@ impl<'c, A: Allocator + Copy> Book<'c, A> {
         answer_of(realm.on_reply(now, link, octets, lines, job.keeps_session))
     }
 
-    /// All the memory of a tick at a moment in milliseconds. Where nothing is due no memory is wanted.
+    /// Takes all the memory of a tick at a moment in milliseconds. Where nothing is due no memory is wanted.
     pub fn tick_room(&self, now: u64) -> Result<Room<A>, NoMemory>
         ensures room { IfOk result (λ room. IsRoomFor now self.now.state.entries room) }
         ensures succeeds { due_list now self.now.state.entries ≡ [] → IsOk result }
@@ -203,9 +202,9 @@ impl<'c, A: Allocator + Copy> Book<'c, A> {
         room_for(self.numbers.alloc, self.realm, &self.entries, now, lines)
     }
 
-    /// A tick, in the room that was made for this state and this moment: each entry that is due is
-    /// taken once, in order of deadline and ticket. Takes no memory, and sends at most as many packets
-    /// as `Room::most` says. Refused where the moment is above 2^62 milliseconds (`Moment`).
+    /// Does a tick in the room that was made for this state and this moment: each entry that is due is taken once, in
+    /// order of deadline and ticket. Takes no memory, and sends at most as many packets as `Room::most` says. Refused
+    /// where the moment is above 2^62 milliseconds (`Moment`).
     pub fn tick_reserved(&mut self, now: u64, room: Room<A>) -> Answer<A>
         requires room { IsRoomFor now self.old.state.entries room }
         ensures turn { Answers result self.old.state self.new.state
@@ -223,8 +222,8 @@ impl<'c, A: Allocator + Copy> Book<'c, A> {
         realm.on_tick(now, room).answer
     }
 
-    /// A tick at a moment in milliseconds at which only done entries are due: they go, and nothing is
-    /// sent. Takes no memory.
+    /// Does a tick at a moment in milliseconds at which only done entries are due: they go, and nothing is sent.
+    /// Takes no memory.
     pub fn let_go(&mut self, now: u64)
         requires moment { now ≤ 2 ^ 62 }
         requires done { only_done_due now self.old.state.entries ≡ true }
@@ -249,9 +248,9 @@ impl<'c, A: Allocator + Copy> Book<'c, A> {
         only_done_due(&self.entries, self.realm, now)
     }
 
-    /// A tick at a moment in milliseconds. `NoMemory` comes where a growth was refused; the book is
-    /// then as it was. No memory is wanted where each entry that is due was answered, so that they only
-    /// go, and where the moment is refused.
+    /// Does a tick at a moment in milliseconds. `NoMemory` comes where a growth was refused; the book is then as it
+    /// was. No memory is wanted where each entry that is due was answered, so that they only go, and where the moment
+    /// is refused.
     pub fn tick(&mut self, now: u64) -> Result<Answer<A>, NoMemory>
         ensures turn { Gives result self.old.state self.new.state
             (on_tick (settings_of self.old) now self.old.state) }

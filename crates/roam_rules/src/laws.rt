@@ -2,6 +2,7 @@
 //!
 //! Each is a function that does nothing: its contract is the law.
 
+ghost use Rattle.roam_rules.specs.Balance.{FirstTargetIsTaken, OneUserHasOneList};
 ghost use Rattle.roam_rules.specs.BookView.{EventIsTaken};
 ghost use Rattle.roam_rules.specs.LeastFirst.{LeastDueFirst, NoneIsDueAfter};
 ghost use Rattle.roam_rules.specs.LostTicks.{NothingIsLost, OnlyDoneGo};
@@ -9,15 +10,15 @@ ghost use Rattle.roam_exchange.specs.RestLaws.{AccessServersNeverStandBack, UpTh
 ghost use Rattle.roam_realm.specs.Saving.{RestoredIsSaved};
 ghost use Rattle.roam_rules.specs.Silence.{ChoiceIsNeverWorse, EndsHaveOwnPlaces, RestsOnlyWhenSilent};
 
-/// A tick takes the least due entry, until none is due. Each due entry is taken once, since what waits
-/// again isn't due at that moment: the time from one sending to the next is at least a millisecond.
+/// States that a tick takes the least due entry, until none is due. Each due entry is taken once, since an entry that
+/// waits again isn't due at that moment: the time from one sending to the next is at least a millisecond.
 pub fn ticks_take_the_least_due_first()
     ensures least { LeastDueFirst }
     ensures none_after { NoneIsDueAfter }
 {}
 
-/// An event of a configuration is a job that its realm takes: a request that can be forwarded and
-/// whose sender shares a secret with the broker, or a packet from a link.
+/// States that an event of a configuration is a job that its realm takes: a request that can be forwarded and whose
+/// sender shares a secret with the broker, or a packet from a link.
 pub fn events()
     ensures { EventIsTaken }
 {}
@@ -30,9 +31,16 @@ pub fn silent_servers()
     ensures access_servers { AccessServersNeverStandBack }
 {}
 
-/// A link stands back only where its end, by whichever `out`, kept silent: of the requests there at least `rest_after`
-/// were given up, and it gave no sign of life since their packets were built, nor since. That links stand back leaves
-/// no request without a target: one is chosen just where some link has a free Identifier.
+/// States that requests of one user for one service have the same targets, in the same order; and that a request goes
+/// to the first of them where that has a free Identifier and isn't marked dead, and no conversation goes on.
+pub fn one_user_goes_to_one_server()
+    ensures list { OneUserHasOneList }
+    ensures first { FirstTargetIsTaken }
+{}
+
+/// States that a link is marked dead only where its end, by whichever `out`, kept silent: of the requests there at
+/// least `rest_after` were given up, and it gave no sign of life since their packets were built, nor since. Links
+/// that are marked dead leave no request without a target: one is chosen just where some link has a free Identifier.
 pub fn rests()
     ensures places { EndsHaveOwnPlaces }
     ensures silent { RestsOnlyWhenSilent }

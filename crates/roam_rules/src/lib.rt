@@ -24,6 +24,8 @@
 //!   law `rests`: `silent`, `choice`
 //! - a tick that is lost for want of memory loses nothing for a realm of which no entry is due; where each due entry
 //!   was answered, a tick sends nothing, and they alone go | law `lost_ticks`: `nothing`, `only_done`
+//! - requests of one user for one service have one list of targets, and the first of them is taken where it isn't dead,
+//!   is free and no conversation goes on | law `one_user_goes_to_one_server`
 //! - without `rest` no link ever rests, and where none rests the first with a free Identifier is chosen; an access
 //!   server never rests | law `silent_servers`
 //! - the rules are those over whatever keeps the entries; the other realms' entries stay as they are |
@@ -47,7 +49,10 @@ mod realm_broker;
 mod rules;
 
 pub use book::{Book, request_of_job};
-pub use laws::{events, restored_is_saved, silent_servers, ticks_take_the_least_due_first};
+pub use laws::{
+    events, one_user_goes_to_one_server, restored_is_saved, silent_servers,
+    ticks_take_the_least_due_first,
+};
 pub use realm_broker::RealmBroker;
 pub use rules::evict_done::only_done_due;
 pub use rules::requests::LATEST;

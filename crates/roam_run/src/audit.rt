@@ -63,7 +63,7 @@ pub fn close_and_audit<R: Wait, N: Opened>(
     }
 }
 
-/// A hub whose threads gave back what they had, until it is closed and audited.
+/// Closes and audits a hub whose threads gave back what they had.
 ///
 /// # Errors
 ///
@@ -106,7 +106,7 @@ fn close_ended<R: Wait, N: Opened>(
     }
 }
 
-/// A hub whose threads have ended, until it is closed and audited, and with it the queues of jobs between them.
+/// Closes and audits a hub whose threads have ended, and with it the queues of jobs between them.
 ///
 /// # Errors
 ///

@@ -26,7 +26,7 @@ pub struct Signals<'w> {
 }
 
 impl<'w> Signals<'w> {
-    /// No thread is told anything yet.
+    /// Makes signals by which no thread is told anything yet.
     pub fn new(wakers: &'w [Waker]) -> Signals<'w> {
         Signals {
             logger: Parker::new(),
@@ -62,8 +62,8 @@ impl<N: Opened> Crew<N> {
         };
         (wakers, crew)
     }
-    /// The threads, before they start, with what else of it they run with. Where they can't be had, what comes back is
-    /// how their time ended: none was started.
+    /// Makes the threads, before they start, with what else of the crew they run with. Where they can't be had,
+    /// returns how their time ended: none was started.
     pub fn prepare<'s, 'c, H>(
         self,
         sockets: &'s [BoundSocket],

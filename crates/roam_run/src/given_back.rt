@@ -14,7 +14,7 @@ use roam_intake::{LockedQueue, audit_jobs};
 use roam_sockets::ServeFault;
 use roam_workers::{Ended, Rests, WorkerEnd, has_given_up_after};
 
-/// The first of two, or the other one where it is missing.
+/// Returns the first of two, or the other one where it is missing.
 fn first_of(one: Option<Rests>, other: Option<Rests>) -> Option<Rests> {
     match one {
         Some(rests) => {
@@ -83,7 +83,8 @@ fn gather<N: Opened>(results: Results<N>) -> Result<Ended<N>, ServeFault>
     Ok(ended)
 }
 
-/// The same, where no socket was given up, and of each queue as many jobs were taken over as were handed on.
+/// Returns what the workers gave back, where no socket was given up, and of each queue as many jobs were taken over
+/// as were handed on.
 ///
 /// # Errors
 ///

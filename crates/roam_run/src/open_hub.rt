@@ -29,7 +29,7 @@ use std::sync::Wait;
 use std::thread::Threads;
 use std::time::Clock;
 
-/// The threads of one configuration, from their start to their end, and how that came.
+/// Runs the threads of one configuration, from their start to their end. Returns how that came.
 fn run<
     'c,
     R: Threads + Wait + Clock + Net + RandomSource + Log + Sync,
@@ -86,7 +86,7 @@ fn run<
     }
 }
 
-/// A hub that is open, until it is closed and audited.
+/// Runs a hub that is open, until it is closed and audited.
 ///
 /// # Errors
 ///

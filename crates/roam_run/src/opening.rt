@@ -23,7 +23,7 @@ struct HubRoom<'c, N: Opened> {
 }
 
 impl<'c, N: Opened> HubRoom<'c, N> {
-    /// Room for a hub of this configuration, and for its threads.
+    /// Takes room for a hub of this configuration, and for its threads.
     fn new(alloc: Global, config: &'c Config) -> Result<HubRoom<'c, N>, AllocError>
         requires { shown config.now ≡ N.opening.config }
     {
@@ -55,7 +55,8 @@ pub struct OpenHub<'c, N: Opened> {
 }
 
 impl<'c, N: Opened> OpenHub<'c, N> {
-    /// A hub over shards that stand under its configuration. Where memory is wanting they come back as they were.
+    /// Opens a hub over shards that stand under its configuration. Where memory is wanting they come back as they
+    /// were.
     pub fn over(
         alloc: Global,
         config: &'c Config,
@@ -77,7 +78,8 @@ impl<'c, N: Opened> OpenHub<'c, N> {
         }
     }
 
-    /// The same, with that memory.
+    /// Opens a hub over shards that stand under its configuration, with the room that was taken for it. Where memory
+    /// is wanting they come back as they were.
     fn with(
         room: HubRoom<'c, N>,
         alloc: Global,

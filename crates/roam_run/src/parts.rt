@@ -54,7 +54,7 @@ impl Drop for Means {
 }
 
 impl Means {
-    /// Each of them.
+    /// Returns each of them.
     pub fn into_parts(self) -> (Kits, Vec<Outbox<Global>>, Rests, Handover)
         ensures kits { result.0 ≡ self.kits }
         ensures outboxes { result.1 ≡ self.outboxes }
@@ -132,7 +132,7 @@ impl<N: Opened> Left<N> {
 }
 
 impl Served {
-    /// The same, after so many steps more.
+    /// Adds so many steps.
     pub fn with_more(self, steps: u64) -> Served
         ensures end { result.end ≡ self.end }
         ensures shards { result.shards ≡ self.shards }

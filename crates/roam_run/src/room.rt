@@ -55,7 +55,7 @@ pub struct ThreadRoom<N: Opened> {
 }
 
 impl<N: Opened> ThreadRoom<N> {
-    /// Room for the threads of so many shards.
+    /// Takes room for the threads of so many shards.
     pub fn new(alloc: Global, shards: u16) -> Result<ThreadRoom<N>, AllocError> {
         Ok(ThreadRoom {
             handles: Vec::with_capacity(alloc, usize::from(shards) + 1)?,

@@ -22,8 +22,8 @@ use roam_telling::{tell_left_out, tell_taken_up, tell_unread};
 use std::alloc::Global;
 use std::time::Clock;
 
-/// The shard of a number begins, with no request pending and the sessions that a file of ledgers has of its realms; and
-/// how many these are.
+/// Begins the shard of a number, with no request pending and the sessions that a file of session tables has of its
+/// realms. Returns the shard, and how many sessions these are.
 fn begin_one(
     alloc: Global,
     config: &Config,
@@ -45,8 +45,8 @@ fn begin_one(
     Ok((standing.pause(), taken))
 }
 
-/// The shards of a server that begins, with no request pending and the sessions that a file of ledgers has; and how
-/// many these are.
+/// Begins the shards of a server, with no request pending and the sessions that a file of session tables has. Returns
+/// the shards, and how many sessions these are.
 fn first_shards(
     alloc: Global,
     config: &Config,
@@ -66,7 +66,7 @@ fn first_shards(
     Ok((shards, taken))
 }
 
-/// The shards of a server that begins with no session.
+/// Begins the shards of a server with no session.
 fn empty_shards(alloc: Global, config: &Config) -> Result<Vec<Paused<Global>>, ServeFault>
     ensures ok { IfOk result (λ shards. HaveBegun (shown config.now) [] shards.items) }
     ensures err { IfErr result IsAfterBinding }
@@ -81,8 +81,8 @@ fn leave<R: Log, S: Source>(parts: &mut ServerParts<'_, R, S>, path: &str, why: 
     tell_unread(parts.rt, path, why, is_aside);
 }
 
-/// The octets that the file of a path holds, where there are any. Where they can't be read that is told, and the file
-/// is put aside.
+/// Reads the octets that the file of a path holds, where there are any. Where they can't be read that is told, and
+/// the file is put aside.
 fn kept<R: Log, S: Source>(parts: &mut ServerParts<'_, R, S>, path: &str) -> Option<Vec<u8>> {
     match parts.source.kept(path) {
         Ok(octets) => octets,
@@ -108,8 +108,8 @@ fn tell_taken<R: Log, S: Source>(
     }
 }
 
-/// The shards that take up what the file of a path holds, where that are ledgers. Where they aren't, that is told, and
-/// it is put aside.
+/// Begins the shards with what the file of a path holds, where that is session tables. Where it isn't, that is told,
+/// and the file is put aside.
 fn begin_from<R: Log, S: Source>(
     parts: &mut ServerParts<'_, R, S>,
     config: &Config,
@@ -134,7 +134,7 @@ fn begin_from<R: Log, S: Source>(
     }
 }
 
-/// The shards that take up what the file of a path has of their realms, where there is one.
+/// Begins the shards with what the file of a path has of their realms, where there is one.
 fn begin_with<R: Log, S: Source>(
     parts: &mut ServerParts<'_, R, S>,
     config: &Config,
@@ -150,8 +150,8 @@ fn begin_with<R: Log, S: Source>(
     }
 }
 
-/// The shards with which a server begins, by number: each realm is at its first start, and has the sessions that a file
-/// of ledgers has of it, where there is one.
+/// Begins the shards of a server, by number: each realm is at its first start, and has the sessions that a file of
+/// session tables has of it, where there is one.
 fn beginning<R: Log, S: Source>(
     parts: &mut ServerParts<'_, R, S>,
     configured: &Configured,

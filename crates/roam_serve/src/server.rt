@@ -34,7 +34,7 @@ pub struct ServeOptions<'s> {
     pub milliseconds: Option<u64>,
 }
 
-/// The socket at which the counts are asked for, where there is one. Tells where it can't be had.
+/// Returns the socket at which the counts are asked for, where there is one. Tells where it can't be had.
 fn listener<R: Log>(rt: &R, config: &Config, watch: Option<Watch<'_>>) -> Option<TcpListener> {
     let Some(
         Watch {
@@ -89,7 +89,8 @@ fn serve_to_end<R: Threads + Wait + Clock + Net + RandomSource + Log + Sync, S: 
     Ok(())
 }
 
-/// The same, where the threads have started that outlast each configuration.
+/// Serves a configuration, and each one that follows, where the threads have started that outlast each configuration;
+/// errs with `Thread` where they haven't.
 fn serve_started<R: Threads + Wait + Clock + Net + RandomSource + Log + Sync, S: Source>(
     have_started: bool,
     parts: &mut ServerParts<'_, R, S>,

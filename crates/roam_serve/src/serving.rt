@@ -34,7 +34,7 @@ use std::time::{Clock, Duration};
 /// The time, in milliseconds, before the threads and sockets are started again that couldn't be.
 const BEFORE_NEXT_TRY: u64 = 100;
 
-/// Nothing was served, for this fault: what serves is to be started again.
+/// Makes the result that nothing was served, for this fault: what serves is to be started again.
 fn not_started(
     fault: ServeFault,
     shards: Vec<Paused<Global>>,

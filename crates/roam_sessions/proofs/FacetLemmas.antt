@@ -5,7 +5,7 @@ use Rattle.std.specs.List.{cons_option}
 use Rattle.std.proofs.lemmas.Bool.{cases_Bool}
 use Rattle.roam_wire.specs.Numbered.{PutsAt, listed, tickets_end}
 use Rattle.roam_sessions.specs.Facets.{AreFaceted, ComesIn, facet_by, facet_of, masked, rows_under}
-use Rattle.roam_sessions.specs.Maps.{groups_of}
+use Rattle.roam_sessions.specs.Maps.{beside_at, groups_of, linked, linked_at}
 use Rattle.roam_sessions.specs.Private.Groups.{AreEndsOf, Comes, Goes, IsGrouped, PlainGroups, count_of, if_row, in_group, oldest_of}
 use Rattle.roam_sessions.specs.Private.Masks.{mask_of}
 use Rattle.roam_sessions.specs.Private.Row.{row_text, row_under}
@@ -13,6 +13,8 @@ use Rattle.roam_sessions.specs.Private.Tickets.{IsOneOf, NoneBefore, all_listed}
 use Rattle.roam_sessions.specs.Sessions.{Asked, Session, agrees}
 use Rattle.roam_sessions.specs.declared.ends.Ends.{Ends}
 use Rattle.roam_sessions.specs.declared.facets.Facets.{Facets}
+use Rattle.roam_sessions.specs.declared.links.Facet.TheVariants as facet
+use Rattle.roam_sessions.specs.declared.neighbours.Beside.{Beside}
 use Rattle.roam_sessions.proofs.ListedLemmas.{listed-none}
 use Rattle.roam_sessions.proofs.NeighbourLemmas.{held-none}
 use Rattle.roam_sessions.proofs.RowLemmas.{in-narrow}
@@ -42,36 +44,45 @@ module _ (r : Session → Option (List ℕ)) (F G : ℕ → Option Session) (t :
 
 -- the groups of what is asked are those of its parts
 pub facet-grouped : {A : Type 0} (q : Asked) (f : Facets A) (F : ℕ → Option Session) → AreFaceted F f
-    → is_some q.id ≡ false → IsGrouped (rows_under (mask_of q) F) (groups_of (facet_of q f))
+    → is_some q.id ≡ false → (beside : ℕ → Option Beside)
+    × IsGrouped (rows_under (mask_of q) F) (record { ends = facet_of q f; beside = beside })
 facet-grouped {A} q f F are none = by q.nas.address q.nas.identifier q.nas.ipv6
   where
-    by : (a i v : Option (List ℕ))
-        → IsGrouped (rows_under (masked (is_some a) (is_some i) (is_some v) (is_some q.id)) F)
-        (groups_of (facet_by a i v f))
-    by None None None =
-        subst (λ (b : Bool). IsGrouped (rows_under (masked false false false b) F) (groups_of f.by_peer)) (sym none)
-        are.by_peer
-    by (Some a) None None =
-        subst (λ (b : Bool). IsGrouped (rows_under (masked true false false b) F) (groups_of f.by_address)) (sym none)
-        are.by_address
-    by None (Some i) None =
-        subst (λ (b : Bool). IsGrouped (rows_under (masked false true false b) F) (groups_of f.by_identifier))
-        (sym none) are.by_identifier
-    by (Some a) (Some i) None =
-        subst (λ (b : Bool). IsGrouped (rows_under (masked true true false b) F) (groups_of f.by_both)) (sym none)
-        are.by_both
-    by None None (Some v) =
-        subst (λ (b : Bool). IsGrouped (rows_under (masked false false true b) F) (groups_of f.by_ipv6)) (sym none)
-        are.by_ipv6
-    by (Some a) None (Some v) =
-        subst (λ (b : Bool). IsGrouped (rows_under (masked true false true b) F) (groups_of f.by_address_ipv6))
-        (sym none) are.by_address_ipv6
-    by None (Some i) (Some v) =
-        subst (λ (b : Bool). IsGrouped (rows_under (masked false true true b) F) (groups_of f.by_identifier_ipv6))
-        (sym none) are.by_identifier_ipv6
-    by (Some a) (Some i) (Some v) =
-        subst (λ (b : Bool). IsGrouped (rows_under (masked true true true b) F) (groups_of f.by_all)) (sym none)
-        are.by_all
+    by : (a i v : Option (List ℕ)) → (beside : ℕ → Option Beside)
+        × IsGrouped (rows_under (masked (is_some a) (is_some i) (is_some v) (is_some q.id)) F)
+        (record { ends = facet_by a i v f; beside = beside })
+    by None None None = (
+      linked_at facet.Peer f.links,
+      subst (λ (b : Bool). IsGrouped (rows_under (masked false false false b) F) (linked facet.Peer f.by_peer f.links)) (sym none) are.by_peer,
+    )
+    by (Some a) None None = (
+      linked_at facet.Address f.links,
+      subst (λ (b : Bool). IsGrouped (rows_under (masked true false false b) F) (linked facet.Address f.by_address f.links)) (sym none) are.by_address,
+    )
+    by None (Some i) None = (
+      linked_at facet.Identifier f.links,
+      subst (λ (b : Bool). IsGrouped (rows_under (masked false true false b) F) (linked facet.Identifier f.by_identifier f.links)) (sym none) are.by_identifier,
+    )
+    by (Some a) (Some i) None = (
+      linked_at facet.Both f.links,
+      subst (λ (b : Bool). IsGrouped (rows_under (masked true true false b) F) (linked facet.Both f.by_both f.links)) (sym none) are.by_both,
+    )
+    by None None (Some v) = (
+      beside_at f.by_ipv6.beside,
+      subst (λ (b : Bool). IsGrouped (rows_under (masked false false true b) F) (groups_of f.by_ipv6)) (sym none) are.by_ipv6,
+    )
+    by (Some a) None (Some v) = (
+      beside_at f.by_address_ipv6.beside,
+      subst (λ (b : Bool). IsGrouped (rows_under (masked true false true b) F) (groups_of f.by_address_ipv6)) (sym none) are.by_address_ipv6,
+    )
+    by None (Some i) (Some v) = (
+      beside_at f.by_identifier_ipv6.beside,
+      subst (λ (b : Bool). IsGrouped (rows_under (masked false true true b) F) (groups_of f.by_identifier_ipv6)) (sym none) are.by_identifier_ipv6,
+    )
+    by (Some a) (Some i) (Some v) = (
+      beside_at f.by_all.beside,
+      subst (λ (b : Bool). IsGrouped (rows_under (masked true true true b) F) (groups_of f.by_all)) (sym none) are.by_all,
+    )
 
 -- as many have a row as pass a test
 unfoldable pub passing : {X : Type 0} → (X → Bool) → Option X → Bool

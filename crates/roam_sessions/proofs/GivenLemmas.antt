@@ -10,7 +10,7 @@ use Rattle.roam_wire.specs.Numbered.{PutsAt}
 use Rattle.roam_sessions.proofs.SameLemmas.{octets-are, octets-same}
 
 -- what a number is given as
-at-itself : (t : ℕ) → is_at (Some t) t ≡ true
+pub at-itself : (t : ℕ) → is_at (Some t) t ≡ true
 at-itself t = grind (arith, nat_tests)
 
 pub at-is : (o : Option ℕ) (u : ℕ) → is_at o u ≡ true → o ≡ Some u

@@ -24,8 +24,13 @@ pub mod CauseLemmas
 pub mod BufferLemmas
 pub mod LargestLemmas
 pub mod GrownLemmas
+pub mod GrownFacetLemmas
+pub mod LinkLemmas
+pub mod LinkedLemmas
 pub mod OneSessionLemmas
 pub mod MapLemmas
+pub mod NotedLemmas
+pub mod PackedLemmas
 pub mod ShortLemmas
 pub mod PairLemmas
 pub mod EndedLemmas

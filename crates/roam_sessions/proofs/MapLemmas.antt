@@ -7,9 +7,8 @@ use Rattle.std.specs.Cmp.Lexicographic.{pointwise}
 use Rattle.std.proofs.lemmas.Bool.{cases_Bool}
 use Rattle.std.proofs.lemmas.Slice.Eq.{bytes_eq-Decides}
 use Rattle.indexmap.specs.IndexMap.{IndexMap, UpdatesBy, get_by}
-use Rattle.roam_sessions.specs.Maps.{ends_at}
+use Rattle.roam_sessions.specs.Maps.{row_at}
 use Rattle.roam_sessions.specs.Private.Groups.{PutsRow}
-use Rattle.roam_sessions.specs.declared.ends.Ends.{Ends}
 use Rattle.roam_sessions.specs.declared.kept_row.KeptRow.{KeptRow}
 use Rattle.roam_sessions.proofs.SameLemmas.{octets-are, octets-same}
 
@@ -20,11 +19,11 @@ apart-way a c apart = elim (cases_Bool (bytes_eq c a)) [
   | inr way ↦ way
 ]
 
-module _ {Z H : Type 0} (m n : IndexMap (KeptRow Z) Ends H) (xs : List ℕ) (w : Option Ends) where
+module _ {Z X H : Type 0} (m n : IndexMap (KeptRow Z) X H) (xs : List ℕ) (w : Option X) where
   -- a key was put, or taken out, by a row
   pub puts-row : UpdatesBy (λ (a b : KeptRow Z). pointwise nat_eq a.octets.items b.octets.items)
       (λ (k : KeptRow Z). pointwise nat_eq xs k.octets.items) m n w
-      → PutsRow (ends_at m) (ends_at n) xs w
+      → PutsRow (row_at m) (row_at n) xs w
   unfolding KeepsOthers
   puts-row updates q = elim (cases_Bool (bytes_eq xs q)) [
     | inl same ↦ (

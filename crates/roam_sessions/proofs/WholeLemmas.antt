@@ -5,14 +5,14 @@ use Rattle.std.proofs.lemmas.Bool.{cases_Bool, cases_eq, cases_lt, not_from_fals
 use Rattle.std.proofs.lemmas.Bool.Decides.{nat_tests}
 use Rattle.roam_wire.specs.Numbered.{PutsAt, tickets_end}
 use Rattle.roam_sessions.specs.Facets.{ComesIn, masked, rows_under}
-use Rattle.roam_sessions.specs.Private.Groups.{AreEnds, AreEndsOf, Comes, Goes, IsGrouped, IsOldestOfMost, PlainGroups, in_group, oldest_of}
+use Rattle.roam_sessions.specs.Private.Groups.{AreEnds, AreEndsOf, Comes, Goes, IsGrouped, IsOldestOfMost, PlainGroups, in_group}
 use Rattle.roam_sessions.specs.Private.Row.{row_text, row_under, whole_row}
-use Rattle.roam_sessions.specs.Private.Tickets.{IsOneOf, IsTicketOf, all_listed}
+use Rattle.roam_sessions.specs.Private.Tickets.{IsNoted, IsOneOf, IsTicketOf, all_listed}
 use Rattle.roam_sessions.specs.Sessions.{Asked, Session, agrees, count_of_peer, has_most, no_nas, without_agreeing, without_first, without_peer}
 use Rattle.roam_sessions.specs.Stands.{whole_rows}
 use Rattle.roam_sessions.specs.declared.ends.Ends.{Ends}
 use Rattle.roam_sessions.proofs.FacetLemmas.{agreeing-counted, agrees-held}
-use Rattle.roam_sessions.proofs.GroupLemmas.{ends-there, from-group, in-own}
+use Rattle.roam_sessions.proofs.GroupLemmas.{ends-there, from-group}
 use Rattle.roam_sessions.proofs.ListedTestLemmas.{all-pass, all-stay, each-passes, first-gone}
 use Rattle.roam_sessions.proofs.NeighbourLemmas.{held-some}
 use Rattle.roam_sessions.proofs.RowLemmas.{whole-is}
@@ -41,7 +41,7 @@ goes-whole F G t s w is at goes = record {
 }
 
 -- a ticket whose row is a session's own is that session's
-row-of-session : (F : ℕ → Option Session) (t : ℕ) (s : Session) → whole_rows F t ≡ Some (whole_row s) → F t ≡ Some s
+pub row-of-session : (F : ℕ → Option Session) (t : ℕ) (s : Session) → whole_rows F t ≡ Some (whole_row s) → F t ≡ Some s
 row-of-session F t s is = by (F t) refl
   where
     by : (o : Option Session) → F t ≡ o → F t ≡ Some s
@@ -51,17 +51,13 @@ row-of-session F t s is = by (F t) refl
         let rows : whole_row x ≡ whole_row s = cc both in
         at ∙ ap (λ (z : Session). Some z) (whole-is x s rows))
 
-pub found-whole : (F : ℕ → Option Session) (p : PlainGroups) (s : Session) → IsGrouped (whole_rows F) p
-    → IsTicketOf s F (oldest_of p (whole_row s))
-found-whole F p s grouped = by (p.ends (whole_row s)) refl (grouped.ends (whole_row s))
+pub found-whole : (F : ℕ → Option Session) (w : List ℕ → Option ℕ) (s : Session) → IsNoted (whole_rows F) w
+    → IsTicketOf s F (w (whole_row s))
+found-whole F w s noted = by (w (whole_row s)) refl
   where
-    by : (o : Option Ends) → p.ends (whole_row s) ≡ o → AreEndsOf (whole_rows F) (whole_row s) o
-        → IsTicketOf s F (oldest_of p (whole_row s))
-    by None is none = rw is (λ t at. absurd (
-        let k = in-own (whole_rows F) t (whole_row s) (ap (option_map whole_row) at) in
-        let l = none t in cc (k, l)))
-    by (Some e) is ends = rw is (row-of-session F e.oldest s
-        (from-group (whole_rows F) e.oldest (whole_row s) ends.oldest.held))
+    by : (o : Option ℕ) → w (whole_row s) ≡ o → IsTicketOf s F o
+    by None none = λ t at. absurd (let k = noted.noted t (whole_row s) (ap (option_map whole_row) at) in cc (k, none))
+    by (Some t) at = row-of-session F t s (noted.found (whole_row s) t at)
 
 -- the sessions of a peer
 abbrev pub of_peer : ℕ → Asked

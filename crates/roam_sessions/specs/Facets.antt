@@ -3,13 +3,15 @@ use Rattle.std.specs.Prelude.{◌≡◌, ℕ, ◌+◌, ◌<◌, ◌≤◌, Bool,
 use Rattle.std.specs.declared.vec.Vec.{Vec}
 use Rattle.roam_wire.specs.Numbered.{PutsAt, tickets_end}
 use Rattle.roam_sessions.specs.Sessions.{Asked, Session}
-use Rattle.roam_sessions.specs.Maps.{HasRoom, groups_of}
+use Rattle.indexmap.specs.IndexMap.{spare}
+use Rattle.roam_sessions.specs.Maps.{HasRoom, ends_at, groups_of, linked}
 use Rattle.roam_sessions.specs.Private.Groups.{IsGrouped}
 use Rattle.roam_sessions.specs.Private.Row.{id_row, row_under}
 use Rattle.roam_sessions.specs.declared.asked.Mask.{Mask}
 use Rattle.roam_sessions.specs.declared.facets.Facets.{Facets}
-use Rattle.roam_sessions.specs.declared.facets.FacetRows.{FacetRows}
-use Rattle.roam_sessions.specs.declared.groups.Groups.{Groups}
+use Rattle.roam_sessions.specs.declared.session_rows.FacetRows.{FacetRows}
+use Rattle.roam_sessions.specs.declared.ends.Ends.{Ends}
+use Rattle.roam_sessions.specs.declared.links.Facet.TheVariants as facet
 
 -- the row of each ticket's session by some of its parts
 abbrev pub rows_under : Mask → (ℕ → Option Session) → ℕ → Option (List ℕ)
@@ -26,15 +28,15 @@ masked address identifier ipv6 id =
 
 -- the sessions of these tickets are in their groups
 pub record AreFaceted {A : Type 0} (F : ℕ → Option Session) (f : Facets A) : Type 0 where
-  pub by_peer : IsGrouped (rows_under (masked false false false false) F) (groups_of f.by_peer)
-  pub by_address : IsGrouped (rows_under (masked true false false false) F) (groups_of f.by_address)
-  pub by_identifier : IsGrouped (rows_under (masked false true false false) F) (groups_of f.by_identifier)
-  pub by_both : IsGrouped (rows_under (masked true true false false) F) (groups_of f.by_both)
+  pub by_peer : IsGrouped (rows_under (masked false false false false) F) (linked facet.Peer f.by_peer f.links)
+  pub by_address : IsGrouped (rows_under (masked true false false false) F) (linked facet.Address f.by_address f.links)
+  pub by_identifier : IsGrouped (rows_under (masked false true false false) F) (linked facet.Identifier f.by_identifier f.links)
+  pub by_both : IsGrouped (rows_under (masked true true false false) F) (linked facet.Both f.by_both f.links)
   pub by_ipv6 : IsGrouped (rows_under (masked false false true false) F) (groups_of f.by_ipv6)
   pub by_address_ipv6 : IsGrouped (rows_under (masked true false true false) F) (groups_of f.by_address_ipv6)
   pub by_identifier_ipv6 : IsGrouped (rows_under (masked false true true false) F) (groups_of f.by_identifier_ipv6)
   pub by_all : IsGrouped (rows_under (masked true true true false) F) (groups_of f.by_all)
-  pub by_id : IsGrouped (id_rows F) (groups_of f.by_id)
+  pub by_id : IsGrouped (id_rows F) (linked facet.Id f.by_id f.links)
 
 -- the octets are the row of a session by some of its parts
 abbrev pub HasText : {A : Type 0} → Option (List ℕ) → Option (Vec ℕ A) → Type 0
@@ -62,27 +64,28 @@ pub record ComesIn (F G : ℕ → Option Session) (t : ℕ) (s : Session) : Type
 
 -- there is room for so many sessions more
 pub record FacetsHaveRoom {A : Type 0} (n : ℕ) (f : Facets A) : Type 0 where
-  pub by_peer : HasRoom n f.by_peer
-  pub by_address : HasRoom n f.by_address
-  pub by_identifier : HasRoom n f.by_identifier
-  pub by_both : HasRoom n f.by_both
+  pub links : n ≤ spare f.links
+  pub by_peer : n ≤ spare f.by_peer
+  pub by_address : n ≤ spare f.by_address
+  pub by_identifier : n ≤ spare f.by_identifier
+  pub by_both : n ≤ spare f.by_both
   pub by_ipv6 : HasRoom n f.by_ipv6
   pub by_address_ipv6 : HasRoom n f.by_address_ipv6
   pub by_identifier_ipv6 : HasRoom n f.by_identifier_ipv6
   pub by_all : HasRoom n f.by_all
-  pub by_id : HasRoom n f.by_id
+  pub by_id : n ≤ spare f.by_id
 
--- the groups in which sessions are found by the names that are asked for
+-- the ends of the groups in which sessions are found by the names that are asked for
 abbrev pub facet_by :
-    {A : Type 0} → Option (List ℕ) → Option (List ℕ) → Option (List ℕ) → Facets A → Groups A
-facet_by None None None f = f.by_peer
-facet_by (Some address) None None f = f.by_address
-facet_by None (Some identifier) None f = f.by_identifier
-facet_by (Some address) (Some identifier) None f = f.by_both
-facet_by None None (Some ipv6) f = f.by_ipv6
-facet_by (Some address) None (Some ipv6) f = f.by_address_ipv6
-facet_by None (Some identifier) (Some ipv6) f = f.by_identifier_ipv6
-facet_by (Some address) (Some identifier) (Some ipv6) f = f.by_all
+    {A : Type 0} → Option (List ℕ) → Option (List ℕ) → Option (List ℕ) → Facets A → List ℕ → Option Ends
+facet_by None None None f = ends_at f.by_peer
+facet_by (Some address) None None f = ends_at f.by_address
+facet_by None (Some identifier) None f = ends_at f.by_identifier
+facet_by (Some address) (Some identifier) None f = ends_at f.by_both
+facet_by None None (Some ipv6) f = ends_at f.by_ipv6.ends
+facet_by (Some address) None (Some ipv6) f = ends_at f.by_address_ipv6.ends
+facet_by None (Some identifier) (Some ipv6) f = ends_at f.by_identifier_ipv6.ends
+facet_by (Some address) (Some identifier) (Some ipv6) f = ends_at f.by_all.ends
 
-abbrev pub facet_of : {A : Type 0} → Asked → Facets A → Groups A
+abbrev pub facet_of : {A : Type 0} → Asked → Facets A → List ℕ → Option Ends
 facet_of q f = facet_by q.nas.address q.nas.identifier q.nas.ipv6 f

@@ -1,24 +1,51 @@
 -- The meaning of the code's maps (ours).
-use Rattle.std.specs.Prelude.{ℕ, ◌≤◌, List, Option, option_map, nat_eq}
+use Rattle.std.specs.Prelude.{◌≡◌, ℕ, ◌≤◌, false, List, Option, option_map, nat_eq}
 use Rattle.std.specs.Cmp.Lexicographic.{pointwise}
 use Rattle.indexmap.specs.IndexMap as map
 use Rattle.indexmap.specs.IndexMap.{IndexMap, spare}
 use Rattle.roam_sessions.specs.Kept.{kept_session}
 use Rattle.roam_sessions.specs.Private.Groups.{PlainGroups}
+use Rattle.roam_sessions.specs.Private.Links.{beside_of, is_facet}
 use Rattle.roam_sessions.specs.Sessions.{Session}
 use Rattle.roam_sessions.specs.declared.ends.Ends.{Ends}
 use Rattle.roam_sessions.specs.declared.neighbours.Beside.{Beside}
 use Rattle.roam_sessions.specs.declared.groups.Groups.{Groups}
 use Rattle.roam_sessions.specs.declared.kept_row.KeptRow.{KeptRow}
-use Rattle.roam_sessions.specs.declared.open_session.OpenSession.{OpenSession}
+use Rattle.roam_sessions.specs.declared.links.Facet.{Facet}
+use Rattle.roam_sessions.specs.declared.links.Links.{Links}
+use Rattle.roam_sessions.specs.declared.packed_session.OpenSession.{OpenSession}
+
+-- what a row has
+abbrev pub row_at : {Z X H : Type 0} → IndexMap (KeptRow Z) X H → List ℕ → Option X
+row_at m row = map.get_by (λ k. pointwise nat_eq row k.octets.items) m
 
 -- the ends of the group of a row
 abbrev pub ends_at : {Z H : Type 0} → IndexMap (KeptRow Z) Ends H → List ℕ → Option Ends
-ends_at m row = map.get_by (λ k. pointwise nat_eq row k.octets.items) m
+ends_at m = row_at m
+
+-- the number of a row
+abbrev pub number_at : {Z H : Type 0} → IndexMap (KeptRow Z) ℕ H → List ℕ → Option ℕ
+number_at m = row_at m
 
 -- the neighbours of a number
 abbrev pub beside_at : {H : Type 0} → IndexMap ℕ Beside H → ℕ → Option Beside
 beside_at m t = map.get nat_eq m t
+
+-- the neighbours of a number in all its groups, and in that of a facet
+abbrev pub links_at : {H : Type 0} → IndexMap ℕ Links H → ℕ → Option Links
+links_at m t = map.get nat_eq m t
+
+abbrev pub linked_at : {H : Type 0} → Facet → IndexMap ℕ Links H → ℕ → Option Beside
+linked_at facet m t = option_map (beside_of facet) (links_at m t)
+
+-- the groups of a facet
+abbrev pub linked : {Z H I : Type 0} → Facet → IndexMap (KeptRow Z) Ends H → IndexMap ℕ Links I → PlainGroups
+linked facet ends links = record { ends = ends_at ends; beside = linked_at facet links }
+
+-- the neighbours in the groups of all other facets stay
+abbrev pub OthersStay : {H : Type 0} → Facet → IndexMap ℕ Links H → IndexMap ℕ Links H → Type 0
+OthersStay facet m n =
+    (other : Facet) → is_facet other facet ≡ false → (u : ℕ) → linked_at other n u ≡ linked_at other m u
 
 abbrev pub groups_of : {A : Type 0} → Groups A → PlainGroups
 groups_of g = record { ends = ends_at g.ends; beside = beside_at g.beside }

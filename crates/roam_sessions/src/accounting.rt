@@ -36,7 +36,7 @@ pub(crate) enum Said<'a> {
     Nothing,
 }
 
-/// The number that four octets are, the high one first; other octets are none.
+/// Reads the number that four octets are, the high one first. Returns `None` for fewer or more octets.
 fn number_in(value: &[u8]) -> Option<u32>
     ensures { result ≡ number_in value.now }
 {
@@ -46,7 +46,7 @@ fn number_in(value: &[u8]) -> Option<u32>
     Some(u32::from_be_bytes([*a, *b, *c, *d]))
 }
 
-/// The status that a request states: the number of its first Acct-Status-Type.
+/// Returns the status that a request states: the number of its first Acct-Status-Type.
 fn status_of(request: &View<'_>) -> Option<u32>
     ensures { result
         ≡ option_and_then number_in (first_value ACCT_STATUS_TYPE request.now.attributes) }

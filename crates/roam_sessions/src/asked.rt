@@ -46,7 +46,7 @@ pub(crate) struct Mask {
     pub(crate) id: bool,
 }
 
-/// No names.
+/// Returns no names.
 pub(crate) fn no_nas<'a>() -> NasRef<'a>
     ensures { shown_nas result ≡ no_nas }
 {
@@ -57,7 +57,7 @@ pub(crate) fn no_nas<'a>() -> NasRef<'a>
     }
 }
 
-/// The names of the access server that a request has: the first of each.
+/// Returns the names of the access server that a request has: the first of each.
 pub(crate) fn nas_in<'a>(request: &View<'a>) -> NasRef<'a>
     ensures { shown_nas result ≡ nas_in request.now.attributes }
 {
@@ -68,7 +68,8 @@ pub(crate) fn nas_in<'a>(request: &View<'a>) -> NasRef<'a>
     }
 }
 
-/// Those of them that count: none where a realm doesn't look at them.
+/// Returns the names of the access server that count: those that a request has, and none where a realm doesn't look
+/// at them.
 pub(crate) fn counted_nas<'a>(own: bool, request: &View<'a>) -> NasRef<'a>
     ensures { shown_nas result ≡ counted_nas own request.now.attributes }
 {

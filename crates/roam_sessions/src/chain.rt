@@ -14,10 +14,11 @@ ghost use Rattle.roam_wire.specs.Numbered.{PutsAt};
 
 use crate::asked::{AskedRef, SessionRef};
 use crate::facets::Facets;
-use crate::groups::Groups;
-use crate::open_session::{NewSession, OpenSession};
+use crate::open_session::NewSession;
+use crate::packed_session::OpenSession;
 use crate::parts::SessionParts;
 use crate::row::Row;
+use crate::wholes::{Wholes, forget_number, note_number, number_of};
 use indexmap::IndexMap;
 use roam_random::HashKey;
 use roam_wire::NoMemory;
@@ -31,7 +32,7 @@ pub(crate) type ByTicket<A> = IndexMap<u64, OpenSession<A>, BuildHasherDefault<F
 /// are, by the names of their access servers, and by the id.
 pub(crate) struct Chain<A: Allocator> {
     pub(crate) by_ticket: ByTicket<A>,
-    pub(crate) whole: Groups<A>,
+    pub(crate) whole: Wholes<A>,
     pub(crate) of_peer: Facets<A>,
     /// The ticket of the session that is opened next.
     pub(crate) next: u64,
@@ -77,14 +78,14 @@ fn take<A: Allocator + Copy>(map: &mut ByTicket<A>, ticket: u64) -> OpenSession<
 }
 
 impl<A: Allocator + Copy> Chain<A> {
-    /// No sessions. Takes no memory.
+    /// Makes a chain without sessions. Takes no memory.
     pub(crate) fn new(alloc: A, key: HashKey) -> Chain<A>
         ensures sound { IsSound result }
         ensures empty { sessions_of result ≡ [] }
     {
         Chain {
             by_ticket: IndexMap::new(alloc),
-            whole: Groups::new(alloc, key),
+            whole: IndexMap::with_hasher(alloc, key),
             of_peer: Facets::new(alloc, key),
             next: 0,
             spare: 0,
@@ -98,18 +99,18 @@ impl<A: Allocator + Copy> Chain<A> {
         self.by_ticket.len()
     }
 
-    /// The ticket of a session.
+    /// Finds the ticket of a session.
     pub(crate) fn find(&self, session: SessionRef<'_>) -> Option<u64>
         ensures { IsSound self.now → IsTicketOf (shown_session session.entry) (session_at self.now) result }
     {
-        self.whole.oldest(Row::of(session.asked()).as_slice())
+        number_of(&self.whole, Row::of(session.asked()).as_slice())
     }
 
-    /// The ticket of a session that is to be opened, where it is there: by the row that it has.
+    /// Finds the ticket of a session that is to be opened, where it is there: by the row that it has.
     pub(crate) fn find_new(&self, new: &NewSession<A>) -> Option<u64>
         ensures { IsSound self.now → IsTicketOf (kept_session new.now.session) (session_at self.now) result }
     {
-        self.whole.oldest(new.whole.as_slice())
+        number_of(&self.whole, new.whole.as_slice())
     }
 
     /// Makes room for one session more. No session changes. There is none once the tickets are used
@@ -132,7 +133,7 @@ impl<A: Allocator + Copy> Chain<A> {
             return Err(NoMemory);
         }
         self.by_ticket.reserve(1)?;
-        self.whole.reserve()?;
+        self.whole.reserve(1)?;
         self.of_peer.reserve()?;
         self.spare = 1;
         Ok(())
@@ -153,7 +154,7 @@ impl<A: Allocator + Copy> Chain<A> {
     {
         let ticket = self.next;
         put(&mut self.by_ticket, ticket, new.session);
-        self.whole.append(ticket, Some(new.whole));
+        note_number(&mut self.whole, new.whole, ticket);
         self.of_peer.append(ticket, new.of_peer);
         self.next = ticket + 1;
         self.spare -= 1;
@@ -170,8 +171,7 @@ impl<A: Allocator + Copy> Chain<A> {
         ensures room { self.new.spare ≡ self.old.spare }
     {
         let session = take(&mut self.by_ticket, ticket);
-        self.whole
-            .remove(ticket, Row::of(session.lend().asked()).as_slice());
+        forget_number(&mut self.whole, Row::of(session.lend().asked()).as_slice());
         self.of_peer.remove(ticket, session.lend());
     }
 
@@ -203,7 +203,8 @@ impl<A: Allocator + Copy> Chain<A> {
         }
     }
 
-    /// The ticket of the oldest session that agrees with what is asked, which names no id. Looks at no other one.
+    /// Finds the ticket of the oldest session that agrees with what is asked, which names no id. Looks at no other
+    /// session.
     pub(crate) fn oldest(&self, asked: AskedRef<'_>) -> Option<u64>
         ensures agrees { IsSound self.now → (shown_asked asked.entry).id ≡ None
             → IsOneOf (agrees (shown_asked asked.entry)) (session_at self.now) result }
@@ -229,7 +230,7 @@ impl<A: Allocator + Copy> Chain<A> {
         }
     }
 
-    /// The session of a ticket, where it lies.
+    /// Returns the session of a ticket, where it lies.
     pub(crate) fn session(&self, ticket: u64) -> Option<SessionRef<'_>>
         ensures { option_map shown_session result ≡ session_at self.now ticket }
     {
@@ -239,7 +240,7 @@ impl<A: Allocator + Copy> Chain<A> {
         }
     }
 
-    /// The session of a ticket, where there is one.
+    /// Returns the session of a ticket, where there is one.
     pub(crate) fn parts_of(&self, ticket: u64) -> Option<SessionParts<'_>>
         ensures { option_map shown_parts result ≡ session_at self.now ticket }
     {

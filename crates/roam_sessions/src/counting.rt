@@ -1,29 +1,22 @@
 //! The number of open sessions that agree with what is asked.
 
-ghost use Rattle.std.specs.Prelude.{◌≡◌, ℕ, List, Option, filter, is_some, length, option_and_then, true};
+ghost use Rattle.std.specs.Prelude.{◌≡◌, filter, is_some, length, true};
 ghost use Rattle.roam_sessions.specs.Ended.{IsTable, agreeing_at, open_count, open_sessions, where_open};
 ghost use Rattle.roam_sessions.specs.Kept.{shown_asked};
-ghost use Rattle.roam_sessions.specs.Maps.{groups_of};
-ghost use Rattle.roam_sessions.specs.Private.Groups.{IsGrouped, in_group, newer_of};
+ghost use Rattle.roam_sessions.specs.Facets.{id_rows};
+ghost use Rattle.roam_sessions.specs.Private.Groups.{in_group};
 ghost use Rattle.roam_sessions.specs.Private.Tickets.{all_listed};
 ghost use Rattle.roam_sessions.specs.Sessions.{agrees};
+ghost use Rattle.roam_sessions.specs.Stands.{session_at};
 
 use crate::asked::AskedRef;
 use crate::ended::agrees;
-use crate::groups::Groups;
+use crate::ends::{count_in, oldest_in};
+use crate::links::{Facet, newer_in};
 use crate::row::Row;
 use crate::table::Table;
+use crate::wholes::number_of;
 use std::alloc::Allocator;
-
-/// Returns the next newer number of the group of a number, if that is given.
-fn newer<A: Allocator + Copy>(groups: &Groups<A>, number: Option<u64>) -> Option<u64>
-    ensures { result ≡ option_and_then (newer_of (groups_of groups.now)) number }
-{
-    match number {
-        Some(number) => groups.newer(number),
-        None => None,
-    }
-}
 
 impl<A: Allocator + Copy> Table<A> {
     /// Returns 1 where the session of a ticket is open and agrees with what is asked, if a ticket is given, else 0.
@@ -39,17 +32,18 @@ impl<A: Allocator + Copy> Table<A> {
         if agrees(asked, session) { 1 } else { 0 }
     }
 
-    /// Returns how many tickets of a group are those of open sessions that agree with what is asked.
-    fn count_agreeing(&self, asked: AskedRef<'_>, groups: &Groups<A>, row: &[u8]) -> usize
-        ensures { IsTable self.now → (f : ℕ → Option (List ℕ)) → IsGrouped f (groups_of groups.now)
-            → result ≡ length (all_listed
-            (in_group (where_open (agreeing_at (shown_asked asked.entry) self.now) f) row.now)) }
+    /// Returns how many tickets of the group of a peer and an id are those of open sessions that agree with what is
+    /// asked.
+    fn count_agreeing(&self, asked: AskedRef<'_>, row: &[u8]) -> usize
+        ensures { IsTable self.now → result ≡ length (all_listed (in_group
+            (where_open (agreeing_at (shown_asked asked.entry) self.now) (id_rows (session_at self.now.chain)))
+            row.now)) }
     {
         let mut count = 0usize;
-        let mut at = groups.oldest(row);
-        for i in 0..groups.count(row) {
+        let mut at = oldest_in(&self.chain.of_peer.by_id, row);
+        for i in 0..count_in(&self.chain.of_peer.by_id, row) {
             count = count.saturating_add(self.agreeing_of(asked, at));
-            at = newer(groups, at);
+            at = newer_in(&self.chain.of_peer.links, Facet::Id, at);
         }
         count
     }
@@ -61,8 +55,8 @@ impl<A: Allocator + Copy> Table<A> {
             → result ≡ length (filter (agrees (shown_asked asked.entry)) (open_sessions self.now)) }
     {
         let row = Row::of(asked.without_names());
-        let unnamed = self.count_agreeing(asked, &self.chain.whole, row.as_slice());
-        let named = self.count_agreeing(asked, &self.chain.of_peer.by_id, row.as_slice());
+        let unnamed = self.agreeing_of(asked, number_of(&self.chain.whole, row.as_slice()));
+        let named = self.count_agreeing(asked, row.as_slice());
         unnamed.saturating_add(named)
     }
 }

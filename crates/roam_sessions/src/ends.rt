@@ -1,14 +1,18 @@
 //! The ends of groups.
 
-ghost use Rattle.std.specs.Prelude.{◌≡◌, ◌<◌, ◌≤◌, ◌+◌, None, Some, IsSome};
+ghost use Rattle.std.specs.Prelude.{◌≡◌, ℕ, ◌<◌, ◌≤◌, ◌+◌, Option, None, Some, IsSome, OnOk, option_map};
+ghost use Rattle.std.specs.Option.{option_map_or};
 ghost use Rattle.indexmap.specs.IndexMap.{spare};
-ghost use Rattle.roam_sessions.specs.Private.Groups.{PutsRow, ends_behind, ends_left, larger, newest_of};
+ghost use Rattle.roam_sessions.specs.Private.Groups.{IsLargest, PutsRow, ends_behind, ends_left, larger, newest_of};
 ghost use Rattle.roam_sessions.specs.Maps.{ends_at};
+ghost use Rattle.roam_sessions.specs.declared.ends.Ends.{Ends};
+ghost use Rattle.roam_sessions.specs.declared.neighbours.Beside.{Beside};
 
 use crate::kept_row::{KeptRow, SoughtRow};
 use crate::neighbours::Beside;
 use indexmap::IndexMap;
 use roam_random::HashKey;
+use roam_wire::NoMemory;
 use std::alloc::Allocator;
 
 /// The oldest and the newest number of a group, and how many it has.
@@ -22,7 +26,7 @@ pub(crate) struct Ends {
 /// The ends of each group, by its row. Peers pick what stands in a row, so the hash is keyed.
 pub(crate) type GroupEnds<A> = IndexMap<KeptRow<A>, Ends, HashKey, A>;
 
-/// The newest number of a group, which may have none yet.
+/// Returns the newest number of a group, which may have none yet.
 pub(crate) fn newest_of(ends: Option<Ends>) -> Option<u64>
     ensures { result ≡ newest_of ends }
 {
@@ -32,7 +36,7 @@ pub(crate) fn newest_of(ends: Option<Ends>) -> Option<u64>
     }
 }
 
-/// The ends of a group, which may have none yet, with a number behind all that it has.
+/// Returns the ends of a group, which may have none yet, with a number behind all that it has.
 pub(crate) fn ends_behind(ends: Option<Ends>, number: u64) -> Ends
     ensures { result ≡ ends_behind number ends }
 {
@@ -50,7 +54,7 @@ pub(crate) fn ends_behind(ends: Option<Ends>, number: u64) -> Ends
     }
 }
 
-/// The ends of a group once a number with these neighbours went; none where it was the only one.
+/// Returns the ends of a group once a number with these neighbours went. Returns `None` where it was the only one.
 pub(crate) fn ends_left(ends: Ends, beside: Beside) -> Option<Ends>
     ensures { result ≡ ends_left beside ends }
 {
@@ -67,7 +71,8 @@ pub(crate) fn ends_left(ends: Ends, beside: Beside) -> Option<Ends>
     })
 }
 
-/// Of the ends that were the best so far, and others: those of the group that has more, or as many and the older one.
+/// Returns the better of the ends that were the best so far, and others: those of the group that has more, or as many
+/// and the older one.
 pub(crate) fn larger(best: Option<Ends>, ends: Ends) -> Ends
     ensures { result ≡ larger best ends }
 {
@@ -78,11 +83,59 @@ pub(crate) fn larger(best: Option<Ends>, ends: Ends) -> Ends
     }
 }
 
-/// The ends of a group.
+/// Returns the ends of a group.
 pub(crate) fn ends_of<A: Allocator + Copy>(map: &GroupEnds<A>, row: &[u8]) -> Option<Ends>
     ensures { result ≡ ends_at map.now row.now }
 {
     map.get(SoughtRow { octets: row }).copied()
+}
+
+/// Returns how many numbers a group has.
+pub(crate) fn count_in<A: Allocator + Copy>(map: &GroupEnds<A>, row: &[u8]) -> usize
+    ensures { result ≡ option_map_or (λ (e : Ends). e.count) (ends_at map.now row.now) 0 }
+{
+    match ends_of(map, row) {
+        None => 0,
+        Some(ends) => ends.count,
+    }
+}
+
+/// Returns the oldest number of a group.
+pub(crate) fn oldest_in<A: Allocator + Copy>(map: &GroupEnds<A>, row: &[u8]) -> Option<u64>
+    ensures { result ≡ option_map (λ (e : Ends). e.oldest) (ends_at map.now row.now) }
+{
+    match ends_of(map, row) {
+        None => None,
+        Some(ends) => Some(ends.oldest),
+    }
+}
+
+/// Finds the oldest number of the group that has most. Where several groups have most, it is the oldest of all
+/// theirs. Looks at each group once.
+pub(crate) fn oldest_of_largest<A: Allocator + Copy>(map: &GroupEnds<A>) -> Option<u64>
+    ensures { (beside : ℕ → Option Beside)
+        → IsLargest (record { ends = ends_at map.now; beside = beside }) result }
+{
+    let mut best: Option<Ends> = None;
+    for i in 0..map.len() {
+        if let Some((_row, ends)) = map.get_index(i) {
+            best = Some(larger(best, *ends));
+        }
+    }
+    match best {
+        None => None,
+        Some(ends) => Some(ends.oldest),
+    }
+}
+
+/// Makes room for one group more. Nothing changes.
+pub(crate) fn reserve_ends<A: Allocator + Copy>(map: &mut GroupEnds<A>) -> Result<(), NoMemory>
+    ensures ok { OnOk result (1 ≤ spare map.new) }
+    ensures room { spare map.old ≤ spare map.new }
+    ensures same { ends_at map.new ≡ ends_at map.old }
+{
+    map.reserve(1)?;
+    Ok(())
 }
 
 /// Notes the ends of a group, where there is room. Takes no memory.
@@ -113,7 +166,7 @@ fn forget<A: Allocator + Copy>(map: &mut GroupEnds<A>, row: &[u8])
     map.swap_remove(SoughtRow { octets: row });
 }
 
-/// The ends of a group are these from now on, or it has none any more.
+/// Gives a group these ends from now on, or none any more.
 pub(crate) fn set<A: Allocator + Copy>(map: &mut GroupEnds<A>, row: &[u8], ends: Option<Ends>)
     ensures puts { IsSome (ends_at map.old row.now)
         → PutsRow (ends_at map.old) (ends_at map.new) row.now ends }

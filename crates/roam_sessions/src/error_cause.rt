@@ -180,16 +180,16 @@ fn cause_by_salt(request: &View<'_>) -> Option<u32>
     }
 }
 
-/// The peer that a reverse request is forwarded to, or the Error-Cause of one that can't be forwarded,
-/// of the first cause that holds. Takes no memory.
+/// Returns the peer that a Disconnect- or CoA-Request is forwarded to, or the Error-Cause of one that can't be
+/// forwarded, of the first cause that holds. Takes no memory.
 ///
-/// 502 where no peer is found for it or the peer isn't among the realm's; what it names; 401 where it holds a
-/// salted string. In a realm with `own_sessions` that is: 404 where it has several User-Names or
-/// Acct-Session-Ids; 502 where its User-Name doesn't name this realm; 503 where no open session of that peer is
-/// the one that it names, and 508 where several are. Without: 502 where its User-Name doesn't name this realm, or
-/// where it has neither a User-Name nor an Acct-Session-Id; 503 where it has no User-Name, and its session isn't
-/// an open one of that peer. Which realm its first User-Name names is said by who looked it up; of other realms
-/// nothing is looked at here.
+/// 502 where no peer is found for it or the peer isn't among the realm's; then the causes by what it names; then 401
+/// where it holds a salted string. The causes by what it names in a realm with `own_sessions` are: 404 where it has
+/// several User-Names or Acct-Session-Ids; 502 where its User-Name doesn't name this realm; 503 where no open session
+/// of that peer is the one that it names, and 508 where several are. Without `own_sessions`: 502 where its User-Name
+/// doesn't name this realm, or where it has neither a User-Name nor an Acct-Session-Id; 503 where it has no
+/// User-Name, and its session isn't an open one of that peer. The caller says which realm its first User-Name names;
+/// this function looks at nothing of other realms.
 #[tactic(auto, unfolding(crate::specs::Causes::cause))]
 pub fn route_of<A: Allocator + Copy>(
     config: &Config,

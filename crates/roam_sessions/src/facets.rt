@@ -1,18 +1,24 @@
 //! The sessions of a peer by the names of their access servers: by none of them, by some, by all; and by their ids.
 
-ghost use Rattle.std.specs.Prelude.{◌≡◌, ℕ, ◌+◌, List, Option, None, IfOk, OnOk, false, filter, is_some, length, option_map};
-ghost use Rattle.roam_sessions.specs.Facets.{AreFaceted, ComesIn, FacetsHaveRoom, HasFacetRows, HasRow, HasText, facet_of};
+ghost use Rattle.std.specs.Prelude.{◌≡◌, ℕ, ◌+◌, List, Option, None, OnOk, false, filter, is_some, length, option_map};
+ghost use Rattle.roam_sessions.specs.Facets.{AreFaceted, ComesIn, FacetsHaveRoom, HasFacetRows, facet_of};
 ghost use Rattle.roam_sessions.specs.Private.Groups.{Goes, IsGrouped, IsLargest};
 ghost use Rattle.roam_sessions.specs.Private.Row.{row_text};
 ghost use Rattle.roam_sessions.specs.Private.Tickets.{IsOneOf, NoneBefore, all_listed};
 ghost use Rattle.roam_sessions.specs.Sessions.{Session, agrees};
 ghost use Rattle.roam_sessions.specs.Kept.{shown_asked, shown_session};
-ghost use Rattle.roam_sessions.specs.Maps.{HasRoom, groups_of};
+ghost use Rattle.roam_sessions.specs.Maps.{HasRoom, ends_at, groups_of, linked};
+ghost use Rattle.roam_sessions.specs.declared.links.Facet.TheVariants as facet;
 ghost use Rattle.roam_wire.specs.Numbered.{PutsAt};
 
-use crate::asked::{AskedRef, Mask, SessionRef};
+use crate::asked::{AskedRef, SessionRef};
+use crate::ends::{GroupEnds, count_in, oldest_in, oldest_of_largest, reserve_ends};
 use crate::groups::Groups;
-use crate::row::{Row, row_of};
+use crate::linked::{join, part};
+use crate::links::{Facet, LinkMap, begin, end, reserve_links};
+use crate::row::Row;
+use crate::session_rows::{FacetRows, mask};
+use indexmap::IndexMap;
 use roam_random::HashKey;
 use roam_wire::NoMemory;
 use std::alloc::Allocator;
@@ -20,21 +26,25 @@ use std::alloc::Allocator;
 /// Tickets of sessions in groups: by the peer, by the peer and some of the access server's names, where a session has
 /// them, and by the peer and the id, where a session has any of those names.
 pub(crate) struct Facets<A: Allocator> {
-    pub(crate) by_peer: Groups<A>,
-    pub(crate) by_address: Groups<A>,
-    pub(crate) by_identifier: Groups<A>,
-    pub(crate) by_both: Groups<A>,
+    /// The neighbours of each ticket in the groups that have ends here. Few sessions have a NAS-IPv6-Address, so the
+    /// groups by that one keep their own.
+    pub(crate) links: LinkMap<A>,
+    pub(crate) by_peer: GroupEnds<A>,
+    pub(crate) by_address: GroupEnds<A>,
+    pub(crate) by_identifier: GroupEnds<A>,
+    pub(crate) by_both: GroupEnds<A>,
     pub(crate) by_ipv6: Groups<A>,
     pub(crate) by_address_ipv6: Groups<A>,
     pub(crate) by_identifier_ipv6: Groups<A>,
     pub(crate) by_all: Groups<A>,
-    pub(crate) by_id: Groups<A>,
+    pub(crate) by_id: GroupEnds<A>,
 }
 
 // By hand, so that a proof sees one call wherever they end, and not each of their maps.
 impl<A: Allocator> Drop for Facets<A> {
     fn drop(self) {
         let Self {
+            links,
             by_peer,
             by_address,
             by_identifier,
@@ -45,6 +55,7 @@ impl<A: Allocator> Drop for Facets<A> {
             by_all,
             by_id,
         } = self;
+        drop(links);
         drop(by_peer);
         drop(by_address);
         drop(by_identifier);
@@ -55,88 +66,6 @@ impl<A: Allocator> Drop for Facets<A> {
         drop(by_all);
         drop(by_id);
     }
-}
-
-/// The rows of a session by which it is found so.
-#[derive(Drop)]
-pub(crate) struct FacetRows<A: Allocator> {
-    pub(crate) by_peer: Option<Vec<u8, A>>,
-    pub(crate) by_address: Option<Vec<u8, A>>,
-    pub(crate) by_identifier: Option<Vec<u8, A>>,
-    pub(crate) by_both: Option<Vec<u8, A>>,
-    pub(crate) by_ipv6: Option<Vec<u8, A>>,
-    pub(crate) by_address_ipv6: Option<Vec<u8, A>>,
-    pub(crate) by_identifier_ipv6: Option<Vec<u8, A>>,
-    pub(crate) by_all: Option<Vec<u8, A>>,
-    pub(crate) by_id: Option<Vec<u8, A>>,
-}
-
-/// Returns what is asked for by these names of the access server, and by the id or not.
-fn mask(address: bool, identifier: bool, ipv6: bool, id: bool) -> Mask
-    ensures { result ≡ record { address = address; identifier = identifier; ipv6 = ipv6; id = id } }
-{
-    Mask {
-        address,
-        identifier,
-        ipv6,
-        id,
-    }
-}
-
-/// The row of what is asked, if anything is.
-fn row_if_any<A: Allocator>(
-    alloc: A,
-    asked: Option<AskedRef<'_>>,
-) -> Result<Option<Vec<u8, A>>, NoMemory>
-    ensures { IfOk result (HasText (option_map row_text (option_map shown_asked asked.entry))) }
-{
-    match asked {
-        None => Ok(None),
-        Some(asked) => Ok(Some(row_of(alloc, asked)?)),
-    }
-}
-
-/// The row of some of a session's parts, where it has them.
-fn row_under<A: Allocator>(
-    alloc: A,
-    session: SessionRef<'_>,
-    mask: Mask,
-) -> Result<Option<Vec<u8, A>>, NoMemory>
-    ensures { IfOk result (λ row. HasRow mask (shown_session session.entry) row) }
-{
-    match session.narrowed(mask) {
-        None => Ok(None),
-        Some(asked) => Ok(Some(row_of(alloc, asked)?)),
-    }
-}
-
-/// The rows of a session.
-pub(crate) fn facet_rows<A: Allocator + Copy>(
-    alloc: A,
-    session: SessionRef<'_>,
-) -> Result<FacetRows<A>, NoMemory>
-    ensures { IfOk result (HasFacetRows (shown_session session.entry)) }
-{
-    let by_peer = row_under(alloc, session, mask(false, false, false, false))?;
-    let by_address = row_under(alloc, session, mask(true, false, false, false))?;
-    let by_identifier = row_under(alloc, session, mask(false, true, false, false))?;
-    let by_both = row_under(alloc, session, mask(true, true, false, false))?;
-    let by_ipv6 = row_under(alloc, session, mask(false, false, true, false))?;
-    let by_address_ipv6 = row_under(alloc, session, mask(true, false, true, false))?;
-    let by_identifier_ipv6 = row_under(alloc, session, mask(false, true, true, false))?;
-    let by_all = row_under(alloc, session, mask(true, true, true, false))?;
-    let by_id = row_if_any(alloc, session.by_id())?;
-    Ok(FacetRows {
-        by_peer,
-        by_address,
-        by_identifier,
-        by_both,
-        by_ipv6,
-        by_address_ipv6,
-        by_identifier_ipv6,
-        by_all,
-        by_id,
-    })
 }
 
 impl<A: Allocator + Copy> Groups<A> {
@@ -154,20 +83,21 @@ impl<A: Allocator + Copy> Groups<A> {
 }
 
 impl<A: Allocator + Copy> Facets<A> {
-    /// No sessions. Takes no memory.
+    /// Makes the groups without sessions. Takes no memory.
     pub(crate) fn new(alloc: A, key: HashKey) -> Facets<A>
         ensures { (F : ℕ → Option Session) → ((t : ℕ) → F t ≡ None) → AreFaceted F result }
     {
         Facets {
-            by_peer: Groups::new(alloc, key),
-            by_address: Groups::new(alloc, key),
-            by_identifier: Groups::new(alloc, key),
-            by_both: Groups::new(alloc, key),
+            links: IndexMap::new(alloc),
+            by_peer: IndexMap::with_hasher(alloc, key),
+            by_address: IndexMap::with_hasher(alloc, key),
+            by_identifier: IndexMap::with_hasher(alloc, key),
+            by_both: IndexMap::with_hasher(alloc, key),
             by_ipv6: Groups::new(alloc, key),
             by_address_ipv6: Groups::new(alloc, key),
             by_identifier_ipv6: Groups::new(alloc, key),
             by_all: Groups::new(alloc, key),
-            by_id: Groups::new(alloc, key),
+            by_id: IndexMap::with_hasher(alloc, key),
         }
     }
 
@@ -177,15 +107,16 @@ impl<A: Allocator + Copy> Facets<A> {
         ensures room { (n : ℕ) → FacetsHaveRoom n self.old → FacetsHaveRoom n self.new }
         ensures same { (F : ℕ → Option Session) → AreFaceted F self.old → AreFaceted F self.new }
     {
-        self.by_peer.reserve()?;
-        self.by_address.reserve()?;
-        self.by_identifier.reserve()?;
-        self.by_both.reserve()?;
+        reserve_links(&mut self.links)?;
+        reserve_ends(&mut self.by_peer)?;
+        reserve_ends(&mut self.by_address)?;
+        reserve_ends(&mut self.by_identifier)?;
+        reserve_ends(&mut self.by_both)?;
+        reserve_ends(&mut self.by_id)?;
         self.by_ipv6.reserve()?;
         self.by_address_ipv6.reserve()?;
         self.by_identifier_ipv6.reserve()?;
-        self.by_all.reserve()?;
-        self.by_id.reserve()
+        self.by_all.reserve()
     }
 
     /// Puts a session with its rows last, where there is room. Takes no memory.
@@ -195,16 +126,47 @@ impl<A: Allocator + Copy> Facets<A> {
             → HasFacetRows s rows → ComesIn F G ticket s → AreFaceted G self.new }
         ensures room { (n : ℕ) → FacetsHaveRoom (n + 1) self.old → FacetsHaveRoom n self.new }
     {
-        self.by_peer.append(ticket, rows.by_peer);
-        self.by_address.append(ticket, rows.by_address);
-        self.by_identifier.append(ticket, rows.by_identifier);
-        self.by_both.append(ticket, rows.by_both);
+        begin(&mut self.links, ticket);
+        join(
+            &mut self.by_peer,
+            &mut self.links,
+            Facet::Peer,
+            ticket,
+            rows.by_peer,
+        );
+        join(
+            &mut self.by_address,
+            &mut self.links,
+            Facet::Address,
+            ticket,
+            rows.by_address,
+        );
+        join(
+            &mut self.by_identifier,
+            &mut self.links,
+            Facet::Identifier,
+            ticket,
+            rows.by_identifier,
+        );
+        join(
+            &mut self.by_both,
+            &mut self.links,
+            Facet::Both,
+            ticket,
+            rows.by_both,
+        );
+        join(
+            &mut self.by_id,
+            &mut self.links,
+            Facet::Id,
+            ticket,
+            rows.by_id,
+        );
         self.by_ipv6.append(ticket, rows.by_ipv6);
         self.by_address_ipv6.append(ticket, rows.by_address_ipv6);
         self.by_identifier_ipv6
             .append(ticket, rows.by_identifier_ipv6);
         self.by_all.append(ticket, rows.by_all);
-        self.by_id.append(ticket, rows.by_id);
     }
 
     /// Takes a session out.
@@ -214,14 +176,46 @@ impl<A: Allocator + Copy> Facets<A> {
             → AreFaceted G self.new }
         ensures room { (n : ℕ) → FacetsHaveRoom n self.old → FacetsHaveRoom n self.new }
     {
-        self.by_peer
-            .leave(ticket, session.narrowed(mask(false, false, false, false)));
-        self.by_address
-            .leave(ticket, session.narrowed(mask(true, false, false, false)));
-        self.by_identifier
-            .leave(ticket, session.narrowed(mask(false, true, false, false)));
-        self.by_both
-            .leave(ticket, session.narrowed(mask(true, true, false, false)));
+        let by_peer = session.narrowed(mask(false, false, false, false));
+        part(
+            &mut self.by_peer,
+            &mut self.links,
+            Facet::Peer,
+            ticket,
+            by_peer,
+        );
+        let by_address = session.narrowed(mask(true, false, false, false));
+        part(
+            &mut self.by_address,
+            &mut self.links,
+            Facet::Address,
+            ticket,
+            by_address,
+        );
+        let by_identifier = session.narrowed(mask(false, true, false, false));
+        part(
+            &mut self.by_identifier,
+            &mut self.links,
+            Facet::Identifier,
+            ticket,
+            by_identifier,
+        );
+        let by_both = session.narrowed(mask(true, true, false, false));
+        part(
+            &mut self.by_both,
+            &mut self.links,
+            Facet::Both,
+            ticket,
+            by_both,
+        );
+        part(
+            &mut self.by_id,
+            &mut self.links,
+            Facet::Id,
+            ticket,
+            session.by_id(),
+        );
+        end(&mut self.links, ticket);
         self.by_ipv6
             .leave(ticket, session.narrowed(mask(false, false, true, false)));
         self.by_address_ipv6
@@ -230,22 +224,21 @@ impl<A: Allocator + Copy> Facets<A> {
             .leave(ticket, session.narrowed(mask(false, true, true, false)));
         self.by_all
             .leave(ticket, session.narrowed(mask(true, true, true, false)));
-        self.by_id.leave(ticket, session.by_id());
     }
 
-    /// The groups in which sessions are found by the names that are asked for.
-    pub(crate) fn groups_for(&self, asked: AskedRef<'_>) -> &Groups<A>
-        ensures { result.now ≡ facet_of (shown_asked asked.entry) self.now }
+    /// Returns the ends of the groups in which sessions are found by the names that are asked for.
+    fn ends_for(&self, asked: AskedRef<'_>) -> &GroupEnds<A>
+        ensures { ends_at result.now ≡ facet_of (shown_asked asked.entry) self.now }
     {
         match (asked.nas.address, asked.nas.identifier, asked.nas.ipv6) {
             (None, None, None) => &self.by_peer,
             (Some(_), None, None) => &self.by_address,
             (None, Some(_), None) => &self.by_identifier,
             (Some(_), Some(_), None) => &self.by_both,
-            (None, None, Some(_)) => &self.by_ipv6,
-            (Some(_), None, Some(_)) => &self.by_address_ipv6,
-            (None, Some(_), Some(_)) => &self.by_identifier_ipv6,
-            (Some(_), Some(_), Some(_)) => &self.by_all,
+            (None, None, Some(_)) => &self.by_ipv6.ends,
+            (Some(_), None, Some(_)) => &self.by_address_ipv6.ends,
+            (None, Some(_), Some(_)) => &self.by_identifier_ipv6.ends,
+            (Some(_), Some(_), Some(_)) => &self.by_all.ends,
         }
     }
 
@@ -255,10 +248,10 @@ impl<A: Allocator + Copy> Facets<A> {
             → is_some (shown_asked asked.entry).id ≡ false
             → result ≡ length (filter (agrees (shown_asked asked.entry)) (all_listed F)) }
     {
-        self.groups_for(asked).count(Row::of(asked).as_slice())
+        count_in(self.ends_for(asked), Row::of(asked).as_slice())
     }
 
-    /// The ticket of the oldest session that agrees with what is asked, which names no id.
+    /// Finds the ticket of the oldest session that agrees with what is asked, which names no id.
     pub(crate) fn oldest(&self, asked: AskedRef<'_>) -> Option<u64>
         ensures agrees { (F : ℕ → Option Session) → AreFaceted F self.now
             → is_some (shown_asked asked.entry).id ≡ false
@@ -267,14 +260,14 @@ impl<A: Allocator + Copy> Facets<A> {
             → is_some (shown_asked asked.entry).id ≡ false
             → NoneBefore (agrees (shown_asked asked.entry)) F result }
     {
-        self.groups_for(asked).oldest(Row::of(asked).as_slice())
+        oldest_in(self.ends_for(asked), Row::of(asked).as_slice())
     }
 
-    /// The ticket of the oldest session of the peer that has most; of several that have most, of the oldest of
-    /// all theirs.
+    /// Finds the ticket of the oldest session of the peer that has most. Where several peers have most, it is the
+    /// oldest of all theirs.
     pub(crate) fn oldest_of_most(&self) -> Option<u64>
-        ensures { IsLargest (groups_of self.now.by_peer) result }
+        ensures { IsLargest (linked facet.Peer self.now.by_peer self.now.links) result }
     {
-        self.by_peer.oldest_of_largest()
+        oldest_of_largest(&self.by_peer)
     }
 }

@@ -97,7 +97,7 @@ fn session_of(octets: &[u8]) -> Result<(SessionItem<'_>, &[u8]), ReadError>
     Ok((session, rest))
 }
 
-/// The item at the front, or the end there, and what stands behind it.
+/// Reads the item at the front, or the end there, and returns what stands behind it too.
 #[tactic(auto, unfolding(crate::specs::Reading::item_at))]
 pub(crate) fn item_of(octets: &[u8]) -> Result<(Option<Item<'_>>, &[u8]), ReadError>
     ensures { Gives (λ x. (option_map shown_item x.0, x.1.now)) result (item_at octets.now) }

@@ -2,10 +2,10 @@
 //! than another, and whatever is asked of a group costs the same however many there are.
 
 ghost use Rattle.std.specs.Prelude.{◌≡◌, ℕ, ◌<◌, ◌+◌, List, Option, None, Some, IsOk, OnOk, option_map};
-ghost use Rattle.roam_sessions.specs.Private.Groups.{Comes, Goes, IsGrouped, IsLargest, count_of, newer_of, oldest_of};
+ghost use Rattle.roam_sessions.specs.Private.Groups.{Comes, Goes, IsGrouped};
 ghost use Rattle.roam_sessions.specs.Maps.{HasRoom, groups_of};
 
-use crate::ends::{Ends, GroupEnds, ends_behind, ends_left, ends_of, larger, newest_of, note, set};
+use crate::ends::{GroupEnds, ends_behind, ends_left, ends_of, newest_of, note, set};
 use crate::neighbours::{Beside, Neighbours, put, set_newer, set_older, take};
 use indexmap::IndexMap;
 use roam_random::HashKey;
@@ -28,7 +28,7 @@ impl<A: Allocator> Drop for Groups<A> {
 }
 
 impl<A: Allocator + Copy> Groups<A> {
-    /// No numbers. Takes no memory.
+    /// Makes groups without numbers. Takes no memory.
     pub(crate) fn new(alloc: A, key: HashKey) -> Groups<A>
         ensures { (f : ℕ → Option (List ℕ)) → ((t : ℕ) → f t ≡ None)
             → IsGrouped f (groups_of result) }
@@ -36,53 +36,6 @@ impl<A: Allocator + Copy> Groups<A> {
         Groups {
             ends: IndexMap::with_hasher(alloc, key),
             beside: IndexMap::new(alloc),
-        }
-    }
-
-    /// Returns how many numbers a group has.
-    pub(crate) fn count(&self, row: &[u8]) -> usize
-        ensures { result ≡ count_of (groups_of self.now) row.now }
-    {
-        match ends_of(&self.ends, row) {
-            None => 0,
-            Some(ends) => ends.count,
-        }
-    }
-
-    /// The oldest number of a group.
-    pub(crate) fn oldest(&self, row: &[u8]) -> Option<u64>
-        ensures { result ≡ oldest_of (groups_of self.now) row.now }
-    {
-        match ends_of(&self.ends, row) {
-            None => None,
-            Some(ends) => Some(ends.oldest),
-        }
-    }
-
-    /// The next newer number of the group of a number.
-    pub(crate) fn newer(&self, number: u64) -> Option<u64>
-        ensures { result ≡ newer_of (groups_of self.now) number }
-    {
-        match self.beside.get(&number) {
-            Some(beside) => beside.newer,
-            None => None,
-        }
-    }
-
-    /// The oldest number of the group that has most; of several that have most, the oldest of all theirs. Looks at each
-    /// group once.
-    pub(crate) fn oldest_of_largest(&self) -> Option<u64>
-        ensures { IsLargest (groups_of self.now) result }
-    {
-        let mut best: Option<Ends> = None;
-        for i in 0..self.ends.len() {
-            if let Some((_row, ends)) = self.ends.get_index(i) {
-                best = Some(larger(best, *ends));
-            }
-        }
-        match best {
-            None => None,
-            Some(ends) => Some(ends.oldest),
         }
     }
 

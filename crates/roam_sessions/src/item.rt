@@ -10,7 +10,7 @@ pub struct Text<'a> {
 }
 
 impl<'a> Text<'a> {
-    /// The octets, if they are few enough.
+    /// Makes a text of the octets, if they are at most 255.
     pub fn new(octets: &'a [u8]) -> Option<Text<'a>>
         ensures few { IsSome result ↔ (length octets.entry.now ≤ 255) }
         ensures same { IfSome result (λ text. text.octets.now ≡ octets.entry.now) }

@@ -58,8 +58,8 @@ impl<A: Allocator> Model for Sessions<A> {
 }
 
 impl<A: Allocator + Copy> Sessions<A> {
-    /// No sessions, and at most so many from now on. What it answers doesn't depend on the key of its hashes.
-    /// `NoMemory` comes where a growth was refused.
+    /// Makes a session table without sessions, which has at most so many from now on. Its answers don't depend on the
+    /// key of its hashes. Errs with `NoMemory` where a growth was refused.
     pub fn new(alloc: A, limit: u32, key: HashKey) -> Result<Sessions<A>, NoMemory>
         ensures limit { IfOk result (λ ledger. ledger.limit ≡ limit) }
         ensures sessions { IfOk result (λ ledger. ledger.sessions ≡ []) }
@@ -74,7 +74,7 @@ impl<A: Allocator + Copy> Sessions<A> {
         }
     }
 
-    /// All sessions go, and at most so many are kept from now on, whose hashes have this key. Takes no memory.
+    /// Removes all sessions, and keeps at most so many from now on, whose hashes have this key. Takes no memory.
     pub fn begin_anew(&mut self, limit: u32, key: HashKey)
         ensures limit { self.new.limit ≡ limit }
         ensures sessions { self.new.sessions ≡ [] }
@@ -142,8 +142,8 @@ impl<A: Allocator + Copy> Sessions<A> {
         Ok(PreparedChange { change })
     }
 
-    /// The same for a session that is open: one that is there, or that can't be kept, wants no
-    /// memory.
+    /// Makes all growth that the change for an open session wants, and changes no session. Takes no memory for a
+    /// session that is there, or that can't be kept.
     pub(crate) fn prepare_opening(
         &mut self,
         session: SessionRef<'_>,
@@ -191,8 +191,8 @@ impl<A: Allocator + Copy> Sessions<A> {
 
     /// For tests and callers that have the memory anyway; a realm's rules prepare a change before they carry it out.
     ///
-    /// What an Accounting-Request of a peer does once it was answered. Memory as in
-    /// [`Sessions::prepare`].
+    /// Changes the sessions as an Accounting-Request of a peer does once it was answered. Takes memory as
+    /// [`Sessions::prepare`] does.
     pub fn apply(&mut self, own: bool, peer: u16, request: &View<'_>) -> Result<(), NoMemory>
         ensures ok { OnOk result (self.new.sessions
             ≡ applied self.old.limit own peer request.now.attributes self.old.sessions) }
@@ -207,8 +207,8 @@ impl<A: Allocator + Copy> Sessions<A> {
         Ok(())
     }
 
-    /// For tests. Whether the session is open that an Accounting-Request of a peer names, as [`Sessions::apply`] would
-    /// open or close it. Takes no memory.
+    /// For tests. Returns whether the session is open that an Accounting-Request of a peer names, as
+    /// [`Sessions::apply`] would open or close it. Takes no memory.
     pub fn is_open(&self, own: bool, peer: u16, request: &View<'_>) -> bool
         ensures { result ≡ is_open own peer request.now.attributes self.now.sessions }
     {

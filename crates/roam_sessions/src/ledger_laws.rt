@@ -12,7 +12,7 @@ pub fn read_was_written()
     ensures { ReadWasWritten }
 {}
 
-/// Of octets that were cut, wherever that is, nothing is read.
+/// States that nothing is read of octets that were cut, wherever that is.
 pub fn cut_is_refused()
     ensures { CutIsRefused }
 {}

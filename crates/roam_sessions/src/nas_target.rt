@@ -14,7 +14,7 @@ use roam_wire::attribute_type::OPERATOR_NAME;
 /// The type of a NAS-IPv6-Address (RFC 3162, section 2.1).
 pub const NAS_IPV6_ADDRESS: u8 = 95;
 
-/// One peer, where both are that one.
+/// Returns the peer, where both are the same one.
 fn same_peer(a: Option<u16>, b: Option<u16>) -> Option<u16>
     ensures value { result ≡ same_peer a b }
 {
@@ -24,7 +24,7 @@ fn same_peer(a: Option<u16>, b: Option<u16>) -> Option<u16>
     }
 }
 
-/// The peer that a NAS-IP-Address and a NAS-Identifier name: both of them, where both are there.
+/// Finds the peer that a NAS-IP-Address and a NAS-Identifier name: both of them, where both are there.
 fn peer_of_nas(config: &Config, names: NasName<'_>) -> Option<u16>
     ensures { result ≡ peer_of_nas (shown config.now).peers (shown_names names.entry) }
 {
@@ -36,7 +36,7 @@ fn peer_of_nas(config: &Config, names: NasName<'_>) -> Option<u16>
     }
 }
 
-/// The peer that all of an access server's names mean that are there.
+/// Finds the peer that an access server's names mean, all of them that are there.
 fn peer_of_names(config: &Config, names: NasName<'_>, ipv6: Option<&[u8]>) -> Option<u16>
     ensures { result ≡ peer_of_names (shown config.now).peers (shown_names names.entry)
         (option_map (λ value. value.now) ipv6.entry) }
@@ -48,7 +48,7 @@ fn peer_of_names(config: &Config, names: NasName<'_>, ipv6: Option<&[u8]>) -> Op
     }
 }
 
-/// The NAS-IPv6-Address of a packet, where some peer has a `nas_ipv6`.
+/// Returns the NAS-IPv6-Address of a packet, where some peer has a `nas_ipv6`.
 fn ipv6_of<'a>(config: &Config, request: &View<'a>) -> Option<&'a [u8]>
     ensures { option_map (λ value. value.now) result ≡ ipv6_of (shown config.now).peers request.now.attributes }
 {
@@ -59,7 +59,7 @@ fn ipv6_of<'a>(config: &Config, request: &View<'a>) -> Option<&'a [u8]>
     }
 }
 
-/// The peer that is named: by the Operator-Name, where there is one and some peer has one, else by the names of
+/// Finds the peer that is named: by the Operator-Name, where there is one and some peer has one, else by the names of
 /// the access server.
 fn peer_named(
     config: &Config,
@@ -76,7 +76,7 @@ fn peer_named(
     }
 }
 
-/// A peer, where it takes reverse requests.
+/// Returns a peer, where it takes Disconnect- and CoA-Requests.
 fn with_coa(config: &Config, peer: Option<u16>) -> Option<u16>
     ensures value { result ≡ with_coa (shown config.now).peers peer }
     ensures bound { IfSome result (λ peer. peer < vec_len config.now.peers) }
@@ -88,9 +88,9 @@ fn with_coa(config: &Config, peer: Option<u16>) -> Option<u16>
     }
 }
 
-/// The index of the peer that a reverse request is for: the one that its Operator-Name names, where it has one
-/// and some peer has one, else the one that its NAS-IP-Address, its NAS-IPv6-Address and
-/// its NAS-Identifier name; if that takes reverse requests. Takes no memory.
+/// Finds the index of the peer that a Disconnect- or CoA-Request is for: the one that its Operator-Name names, where
+/// it has one and some peer has one, else the one that its NAS-IP-Address, its NAS-IPv6-Address and its
+/// NAS-Identifier name. Returns `None` where that peer doesn't take such requests. Takes no memory.
 #[tactic(auto, unfolding(crate::specs::Target::target))]
 pub fn target(config: &Config, request: &View<'_>) -> Option<u16>
     ensures value { result ≡ target (shown config.now).peers request.now.attributes }

@@ -16,7 +16,7 @@ fn count_below(tickets: &[u64], ticket: u64) -> usize
     tickets.iter().filter(|other| **other < ticket).count()
 }
 
-/// The last of these tickets that comes before a ticket, and its place.
+/// Finds the last of these tickets that comes before a ticket, and its place.
 fn last_below(tickets: &[u64], end: u64) -> Option<(usize, u64)>
     ensures within { IfSome result (λ x. x.0 < length tickets.now) }
     ensures there { IfSome result (λ x. slice_index tickets.now x.0 ≡ x.1) }
@@ -34,8 +34,8 @@ fn last_below(tickets: &[u64], end: u64) -> Option<(usize, u64)>
     None
 }
 
-/// The last of the first ones of these tickets that comes before a ticket, and its place; where none of those does, the
-/// last of all.
+/// Finds the last of the `first` front ones of these tickets that comes before a ticket, and its place. Where none of
+/// those does, it is the last of all.
 fn one_below(tickets: &[u64], first: usize, end: u64) -> Option<(usize, u64)>
     ensures within { IfSome result (λ x. x.0 < length tickets.now) }
     ensures there { IfSome result (λ x. slice_index tickets.now x.0 ≡ x.1) }
@@ -63,8 +63,8 @@ impl<A: Allocator + Copy> Chain<A> {
         count_below(self.by_ticket.keys().as_slice(), ticket)
     }
 
-    /// A ticket before which just so many sessions were opened. Looks at each session some 64 times, however many
-    /// tickets are no session's any more.
+    /// Finds a ticket before which just so many sessions were opened. Looks at each session some 64 times, however
+    /// many tickets are no session's any more.
     fn ticket_after(&self, count: usize) -> u64
         requires sound { IsSound self.now }
         requires few { count ≤ session_count self.now }
@@ -84,8 +84,8 @@ impl<A: Allocator + Copy> Chain<A> {
         least
     }
 
-    /// A session that was opened before a ticket, and its place in the table: of the first places the last such one,
-    /// and where there is none, the last of all.
+    /// Finds a session that was opened before a ticket, and its place in the table: the last such one of the `first`
+    /// front places, and where there is none, the last of all.
     fn one_before(&self, end: u64, first: usize) -> Option<(usize, u64)>
         ensures below { IfSome result (λ x. x.1 < end) }
         ensures there { IfSome result (λ x. IsSome (session_at self.now x.1)) }

@@ -4,13 +4,13 @@ ghost use Rattle.std.specs.Prelude.{◌≡◌, ◌≤◌, IfNone, IfSome, OnErr,
 ghost use Rattle.roam_sessions.specs.Kept.{kept_session, shown_session};
 ghost use Rattle.roam_sessions.specs.Parts.{AreShort, IsShortIfAny, shown_parts};
 ghost use Rattle.roam_sessions.specs.Sessions.{has_session, with_session};
-ghost use Rattle.roam_sessions.specs.Short.{kept_octets, shown_short};
+ghost use Rattle.roam_sessions.specs.Short.{shown_short};
 ghost use Rattle.roam_sessions.specs.ShownSessions.{shown_octets};
 
 use crate::asked::{NasRef, SessionRef};
 use crate::ledger::Sessions;
-use crate::open_session::OpenSession;
-use crate::short::{KeptShort, Short};
+use crate::packed_session::OpenSession;
+use crate::short::Short;
 use roam_wire::NoMemory;
 use std::alloc::Allocator;
 
@@ -25,7 +25,7 @@ pub struct SessionParts<'a> {
     pub id: &'a [u8],
 }
 
-/// Octets that an attribute has room for.
+/// Returns octets, where an attribute has room for them.
 fn short(octets: &[u8]) -> Option<Short<'_>>
     ensures some { IfSome result (λ s. shown_short s ≡ octets.entry.now) }
     ensures none { IfNone result (length octets.now ≤ 253 → ⊥) }
@@ -37,7 +37,7 @@ fn short(octets: &[u8]) -> Option<Short<'_>>
     }
 }
 
-/// The same, where there are any: none where an attribute has no room for them.
+/// Returns octets, where there are any. Returns `None` where there are some and an attribute has no room for them.
 fn short_if_any(octets: Option<&[u8]>) -> Option<Option<Short<'_>>>
     ensures some { IfSome result (λ s. option_map shown_short s ≡ option_map shown_octets octets.entry) }
     ensures none { IfNone result (IsShortIfAny (option_map shown_octets octets.entry) → ⊥) }
@@ -51,7 +51,7 @@ fn short_if_any(octets: Option<&[u8]>) -> Option<Option<Short<'_>>>
     }
 }
 
-/// A session of these parts, if an attribute has room for each of them.
+/// Makes a session of these parts, if an attribute has room for each of them.
 fn session_of(parts: SessionParts<'_>) -> Option<SessionRef<'_>>
     ensures some { IfSome result (λ s. shown_session s ≡ shown_parts parts.entry) }
     ensures none { IfNone result (AreShort (shown_parts parts.entry) → ⊥) }
@@ -71,27 +71,28 @@ fn session_of(parts: SessionParts<'_>) -> Option<SessionRef<'_>>
     })
 }
 
-/// Octets where they lie, where there are any.
-fn lent<A: Allocator>(part: &Option<KeptShort<A>>) -> Option<&[u8]>
-    ensures { option_map shown_octets result ≡ option_map kept_octets part.now }
+/// Returns octets where they lie, where there are any.
+fn lent<'a>(part: Option<Short<'a>>) -> Option<&'a [u8]>
+    ensures { option_map shown_octets result ≡ option_map shown_short part.entry }
 {
     match part {
         None => None,
-        Some(part) => Some(part.lend().octets),
+        Some(part) => Some(part.octets),
     }
 }
 
 impl<A: Allocator> OpenSession<A> {
-    /// Its parts, where they lie.
+    /// Returns the session's parts, where they lie.
     pub(crate) fn parts(&self) -> SessionParts<'_>
         ensures { shown_parts result ≡ kept_session self.now }
     {
+        let session = self.lend();
         SessionParts {
-            peer: self.peer,
-            address: lent(&self.address),
-            identifier: lent(&self.identifier),
-            ipv6: lent(&self.ipv6),
-            id: self.id.lend().octets,
+            peer: session.peer,
+            address: lent(session.nas.address),
+            identifier: lent(session.nas.identifier),
+            ipv6: lent(session.nas.ipv6),
+            id: session.id.octets,
         }
     }
 }
@@ -120,7 +121,7 @@ impl<A: Allocator + Copy> Sessions<A> {
         self.table.add_tickets(tickets)
     }
 
-    /// The session of a ticket, where that is still open. Takes no memory.
+    /// Returns the session of a ticket, where that is still open. Takes no memory.
     pub fn parts_of(&self, ticket: u64) -> Option<SessionParts<'_>>
         ensures { IfSome result (λ parts. has_session (shown_parts parts) self.now.sessions ≡ true) }
     {

@@ -10,7 +10,7 @@ use crate::fields::{behind_head, item_of};
 use crate::item::Item;
 use std::alloc::Global;
 
-/// All items, where nothing stands behind their end.
+/// Returns all items, where nothing stands behind their end.
 fn ended<'a>(items: Vec<Item<'a>>, after: &[u8]) -> Result<Vec<Item<'a>>, ReadError>
     ensures { Gives (λ v. shown_items v.items) result (with_front (shown_items items.entry.items) (ended after.now)) }
 {
@@ -21,7 +21,7 @@ fn ended<'a>(items: Vec<Item<'a>>, after: &[u8]) -> Result<Vec<Item<'a>>, ReadEr
     }
 }
 
-/// The items of octets that begin behind the head.
+/// Reads the items of octets that begin behind the head.
 fn items_of(alloc: Global, octets: &[u8]) -> Result<Vec<Item<'_>>, ReadError>
     ensures { Gives (λ v. shown_items v.items) result (items_within (length octets.now) octets.now) }
 {
@@ -48,7 +48,7 @@ fn all(alloc: Global, octets: &[u8]) -> Result<Vec<Item<'_>>, ReadError>
     items_of(alloc, rest)
 }
 
-/// The ledgers that the octets are, all of the octets.
+/// Reads the session tables that the octets are, all of the octets.
 ///
 /// # Errors
 ///

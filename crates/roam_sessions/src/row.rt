@@ -71,7 +71,7 @@ fn push_part<A: Allocator>(row: &mut Vec<u8, A>, part: Option<Short<'_>>) -> Res
     Ok(())
 }
 
-/// The row of what is asked, in memory of its own: as much as it takes.
+/// Makes the row of what is asked, in memory of its own: as much as it takes.
 pub(crate) fn row_of<A: Allocator>(alloc: A, asked: AskedRef<'_>) -> Result<Vec<u8, A>, NoMemory>
     ensures { IfOk result (λ row. row.items ≡ row_text (shown_asked asked.entry)) }
 {
@@ -87,7 +87,7 @@ pub(crate) fn row_of<A: Allocator>(alloc: A, asked: AskedRef<'_>) -> Result<Vec<
 }
 
 impl Row {
-    /// The row of what is asked. Takes no memory.
+    /// Makes the row of what is asked. Takes no memory.
     pub(crate) fn of(asked: AskedRef<'_>) -> Row
         ensures { result ≡ row_text (shown_asked asked.entry) }
     {
@@ -101,7 +101,7 @@ impl Row {
         Row { octets, len }
     }
 
-    /// Its octets.
+    /// Returns the row's octets.
     pub(crate) fn as_slice(&self) -> &[u8]
         ensures { result.now ≡ self.now }
     {

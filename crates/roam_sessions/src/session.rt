@@ -27,7 +27,7 @@ pub(crate) struct SessionArray {
     pub(crate) id: ShortArray,
 }
 
-/// A copy of octets, where there are any.
+/// Copies octets, where there are any.
 fn array_of(part: Option<Short<'_>>) -> Option<ShortArray>
     ensures { option_map short_octets result ≡ option_map shown_short part.entry }
 {
@@ -37,7 +37,7 @@ fn array_of(part: Option<Short<'_>>) -> Option<ShortArray>
     }
 }
 
-/// Octets where they lie, where there are any.
+/// Returns octets where they lie, where there are any.
 fn lent(part: &Option<ShortArray>) -> Option<Short<'_>>
     ensures { option_map shown_short result ≡ option_map short_octets part.now }
 {
@@ -48,7 +48,7 @@ fn lent(part: &Option<ShortArray>) -> Option<Short<'_>>
 }
 
 impl NasArray {
-    /// A copy of names.
+    /// Makes a copy of names.
     pub(crate) fn copy_of(nas: NasRef<'_>) -> NasArray
         ensures { arrayed_nas result ≡ shown_nas nas.entry }
     {
@@ -59,7 +59,7 @@ impl NasArray {
         }
     }
 
-    /// The names where they lie.
+    /// Returns the names where they lie.
     pub(crate) fn lend(&self) -> NasRef<'_>
         ensures { shown_nas result ≡ arrayed_nas self.now }
     {
@@ -72,7 +72,7 @@ impl NasArray {
 }
 
 impl SessionArray {
-    /// A copy of a session.
+    /// Makes a copy of a session.
     pub(crate) fn copy_of(session: SessionRef<'_>) -> SessionArray
         ensures { arrayed_session result ≡ shown_session session.entry }
     {
@@ -83,7 +83,7 @@ impl SessionArray {
         }
     }
 
-    /// The session where it lies.
+    /// Returns the session where it lies.
     pub(crate) fn lend(&self) -> SessionRef<'_>
         ensures { shown_session result ≡ arrayed_session self.now }
     {

@@ -10,8 +10,8 @@ ghost use Rattle.roam_sessions.specs.SessionLaws.{OthersStayOpen, OthersThanThes
 ghost use Rattle.roam_sessions.specs.TargetLaws.{NamelessIsForNone, NamesAreTheTargets, OperatorNamesTheTarget};
 ghost use Rattle.roam_sessions.specs.TargetLaws.{TargetTakesRequests};
 
-/// The target takes reverse requests and is named: by the Operator-Name, where that counts, else by each name of
-/// an access server that is there.
+/// States that the target takes Disconnect- and CoA-Requests and is named: by the Operator-Name, where that counts,
+/// else by each name of an access server that is there.
 pub fn target_is_named()
     ensures takes { TargetTakesRequests }
     ensures operator { OperatorNamesTheTarget }
@@ -19,19 +19,19 @@ pub fn target_is_named()
     ensures nameless { NamelessIsForNone }
 {}
 
-/// No request makes two sessions of a ledger the same, or more of them than its limit.
+/// States that no request makes two sessions of a table the same, or more of them than its limit.
 pub fn ledgers_stay_ledgers()
     ensures kept { RequestsKeepTheLedger }
     ensures limit_of_none { LimitOfNoneHoldsNone }
 {}
 
-/// A session that was opened is there, once.
+/// States that a session that was opened is there, once.
 pub fn opened_sessions()
     ensures is_there { OpenedIsThere }
     ensures once { OpenedTwiceIsOpenedOnce }
 {}
 
-/// A session that was closed is gone, and the others stay.
+/// States that a session that was closed is gone, and the others stay.
 pub fn closed_sessions()
     ensures gone { ClosedIsGone }
     ensures others { OthersStayOpen }
@@ -45,12 +45,12 @@ pub fn sessions_of_a_peer()
     ensures others { OtherPeersSessionsStay }
 {}
 
-/// A session makes way for one of another peer only where its own peer has more.
+/// States that a session makes way for one of another peer only where its own peer has more.
 pub fn peers_have_shares()
     ensures { MoreMakesWay }
 {}
 
-/// In a realm with `own_sessions` a request that can be forwarded is of one session of the realm's own.
+/// States that in a realm with `own_sessions` a request that can be forwarded is of one session of the realm's own.
 pub fn forwarded_is_of_one_session()
     ensures { ForwardedIsOfOneSession }
 {}
@@ -60,14 +60,14 @@ pub fn named_requests_need_no_session()
     ensures { NamedRequestsNeedNoSession }
 {}
 
-/// A request that can be forwarded has a target, and holds no salted string; with a User-Name it names
+/// States that a request that can be forwarded has a target, and holds no salted string; with a User-Name it names
 /// the realm.
 pub fn forwarded_has_target()
     ensures target { ForwardedHasTarget }
     ensures realm { ForwardedNamesTheRealm }
 {}
 
-/// The numbers of the status types and of the Error-Causes.
+/// States the numbers of the status types and of the Error-Causes.
 pub fn numbers_of_statuses_and_causes()
     ensures statuses { StatusTypes }
     ensures causes { ErrorCauses }

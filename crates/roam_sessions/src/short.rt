@@ -2,9 +2,6 @@
 
 ghost use Rattle.std.specs.Prelude.{◌≤◌, length};
 
-use roam_wire::Octets;
-use std::alloc::Allocator;
-
 /// At most 253 octets, where they lie.
 #[derive(Clone, Copy)]
 pub(crate) struct Short<'a> {
@@ -12,14 +9,7 @@ pub(crate) struct Short<'a> {
     ghost size: { length octets.now ≤ 253 },
 }
 
-/// The same, with the memory of their own.
-#[derive(Drop)]
-pub(crate) struct KeptShort<A: Allocator> {
-    pub(crate) octets: Octets<A>,
-    ghost size: { length octets ≤ 253 },
-}
-
-/// The same, without any memory but their own.
+/// The same, kept without memory.
 #[derive(Clone, Copy)]
 pub(crate) struct ShortArray {
     pub(crate) octets: [u8; 253],

@@ -1,14 +1,13 @@
 //! Short octets of a packet, and their copies.
 
-ghost use Rattle.std.specs.Prelude.{◌≡◌, IfOk, option_map};
+ghost use Rattle.std.specs.Prelude.{◌≡◌, option_map};
 ghost use Rattle.roam_wire.specs.Attributes.{first_value};
-ghost use Rattle.roam_sessions.specs.Short.{kept_octets, shown_short, short_octets};
+ghost use Rattle.roam_sessions.specs.Short.{shown_short, short_octets};
 
-use crate::short::{KeptShort, Short, ShortArray};
-use roam_wire::{NoMemory, Octets, View};
-use std::alloc::Allocator;
+use crate::short::{Short, ShortArray};
+use roam_wire::View;
 
-/// The Value of a packet's first attribute of a Type, if there is one.
+/// Returns the Value of a packet's first attribute of a Type, if there is one.
 pub(crate) fn first_short<'a>(request: &View<'a>, kind: u8) -> Option<Short<'a>>
     ensures { option_map shown_short result ≡ first_value kind request.now.attributes }
 {
@@ -20,30 +19,8 @@ pub(crate) fn first_short<'a>(request: &View<'a>, kind: u8) -> Option<Short<'a>>
     Some(Short { octets })
 }
 
-impl<A: Allocator + Copy> KeptShort<A> {
-    /// A copy.
-    pub(crate) fn copy_of(alloc: A, short: Short<'_>) -> Result<KeptShort<A>, NoMemory>
-        ensures { IfOk result (λ kept. kept_octets kept ≡ shown_short short.entry) }
-    {
-        Ok(KeptShort {
-            octets: Octets::copy_of(alloc, short.octets)?,
-        })
-    }
-}
-
-impl<A: Allocator> KeptShort<A> {
-    /// Returns where they lie.
-    pub(crate) fn lend(&self) -> Short<'_>
-        ensures { shown_short result ≡ kept_octets self.now }
-    {
-        Short {
-            octets: self.octets.as_slice(),
-        }
-    }
-}
-
 impl ShortArray {
-    /// A copy. Takes no memory.
+    /// Makes a copy. Takes no memory.
     pub(crate) fn copy_of(short: Short<'_>) -> ShortArray
         ensures { short_octets result ≡ shown_short short.entry }
     {

@@ -74,7 +74,7 @@ fn put_realm<A: Allocator>(
 }
 
 impl<A: Allocator + Copy> Writing<A> {
-    /// Nothing but the head.
+    /// Begins with only the head.
     pub fn new(alloc: A) -> Result<Writing<A>, AllocError>
         ensures { IfOk result (λ writing. writing ≡ head) }
     {
@@ -102,7 +102,7 @@ impl<A: Allocator + Copy> Writing<A> {
     }
 }
 
-/// The octets of ledgers.
+/// Writes the octets of session tables.
 pub fn write(alloc: Global, items: &[Item<'_>]) -> Result<Vec<u8>, AllocError>
     ensures { IfOk result (λ v. v.items ≡ ledgers_text (shown_items items.now)) }
 {

@@ -1,14 +1,20 @@
 -- What becomes of a shard's realms when it follows a configuration: they go over, one after the other.
 use Rattle.std.proofs.Common.{◌≡◌, ◌≢◌, ℕ, zero, suc, ◌+◌, ◌<◌, ◌≤◌, ◌||◌, Bool, true, false, List, [], ◌∷◌, ◌++◌, length, Option, Some, None, refl, ap, sym, ◌∙◌, subst, inl, inr, arith}
-use Rattle.std.specs.Prelude.{slice_get, slice_index_or}
+use Rattle.std.specs.Prelude.{map, slice_get, slice_index_or}
+use Rattle.std.specs.List.{AllByRecursion}
 use Rattle.std.proofs.lemmas.List.{length-append}
 use Rattle.roam_conf.specs.Config.{ConfigView, RealmView as RealmTable}
 use Rattle.roam_conf.specs.Duplicates.{has_duplicate_server, has_pair_of_servers}
+use Rattle.roam_conf.specs.Parts.{shown_realm, shown_server}
+use Rattle.roam_conf.specs.Shown.{shown}
+use Rattle.roam_conf.specs.declared.config.Config.{Config}
+use Rattle.roam_conf.specs.declared.realm.Realm.{Realm}
+use Rattle.roam_conf.specs.declared.server.Server.{Server}
 use Rattle.roam_pending.specs.PlainEntry.{PlainEntry}
 use Rattle.roam_realm.specs.RealmConfig.{RealmConfig, no_realm, realm_config}
 use Rattle.roam_realm.specs.Sound.{IsSound, state_of}
 use Rattle.roam_realm.specs.declared.realm_numbers.RealmNumbers.{RealmNumbers}
-use Rattle.roam_migrate.specs.Carrying.{IsReadyToCarry}
+use Rattle.roam_migrate.specs.Carrying.{AreDistinct, IsReadyToCarry, Serves}
 use Rattle.roam_migrate.specs.Reload.{carried}
 use Rattle.roam_migrate.specs.declared.lanes.FreshLanes.{FreshLanes}
 use Rattle.roam_shard.specs.Pausing.{AllCanGoOver, AreOver, CanGoOver, GoesOn, HasGoneOver, HasNumbersThen, IsOver}
@@ -64,9 +70,23 @@ pair_free (x ∷ xs) zero none lt = (or_none (has_pair_of_servers x) (has_duplic
 pair_free (x ∷ xs) (suc r) none lt =
     pair_free xs r (or_none (has_pair_of_servers x) (has_duplicate_server xs) none).1 (omega (arith, lt))
 
-pub distinct_in : (config : ConfigView) (realm : ℕ) → has_duplicate_server config.realms ≡ false
-    → realm < length config.realms → has_pair_of_servers (realm_config config realm).realm ≡ false
-distinct_in config realm none lt = pair_free config.realms realm none lt
+-- and each has an endpoint
+all_serve : (servers : List Server) → AllByRecursion Serves (map shown_server servers)
+all_serve [] = tt
+all_serve (s ∷ ss) = (s.serves, all_serve ss)
+
+serve_in : (realms : List Realm) (r : ℕ) → r < length (map shown_realm realms)
+    → AllByRecursion Serves (slice_index_or (map shown_realm realms) r no_realm).servers
+serve_in [] r lt = absurd (omega (arith, lt))
+serve_in (x ∷ xs) zero lt = all_serve x.servers.items
+serve_in (x ∷ xs) (suc r) lt = serve_in xs r (omega (arith, lt))
+
+pub distinct_in : (config : Config) (realm : ℕ) → realm < length (shown config).realms
+    → AreDistinct (realm_config (shown config) realm).realm
+distinct_in config realm lt = record {
+  once = pair_free (shown config).realms realm config.distinct_servers lt;
+  serve = serve_in config.realms.items realm lt;
+}
 
 -- what a realm's entries and numbers become is said by its parts of both configurations
 pub gone_by : {A : Type 0} (old new : ConfigView) (realm : ℕ) (b c : RealmConfig) (E F : ℕ → List PlainEntry)

@@ -19,7 +19,7 @@ pub(crate) fn lost_or_refused<A: Allocator>(alloc: A, why: Refusal) -> Result<An
     Ok(refused(alloc, why))
 }
 
-/// The answer of a turn. Takes no memory.
+/// Returns the answer of a turn. Takes no memory.
 pub(crate) fn answer_of<A: Allocator>(
     turned: Result<Turned<A>, NoMemory>,
 ) -> Result<Answer<A>, NoMemory>

@@ -14,8 +14,8 @@ use roam_rules::RealmBroker;
 use std::alloc::Allocator;
 
 impl<'c, A: Allocator + Copy> Shard<'c, A> {
-    /// A realm's part of a tick at which only done entries are due: they go. Takes memory only
-    /// to tell of conversations that are left.
+    /// Does a realm's part of a tick at which only done entries are due: they go. Takes memory only to tell of
+    /// conversations that are left.
     pub(crate) fn let_one_go(
         &mut self,
         now: u64,
@@ -47,8 +47,8 @@ impl<'c, A: Allocator + Copy> Shard<'c, A> {
         one.let_go(now, left);
     }
 
-    /// A tick at which only done entries are due: they go, and nothing is sent. Takes memory
-    /// only to tell of conversations that are left.
+    /// Does a tick at which only done entries are due: they go, and nothing is sent. Takes memory only to tell of
+    /// conversations that are left.
     pub(crate) fn let_go(&mut self, now: u64, left: &mut Vec<LeftConversation<A>, A>)
         requires moment { now ≤ 2 ^ 62 }
         requires done { only_done_from self.old.opening.config now self.old.opening.shard 0

@@ -11,7 +11,7 @@ use roam_core::Event;
 use roam_wire::{NoMemory, Octets};
 use std::alloc::Allocator;
 
-/// The event of a job, at a moment in milliseconds: the arrival of its octets. Takes no memory.
+/// Makes the event of a job, at a moment in milliseconds: the arrival of its octets. Takes no memory.
 pub(crate) fn event_of<A: Allocator>(now: u64, job: Job<A>) -> Event<A>
     ensures { shown_event result ≡ arrives now (arrival_of (shown_job job)) }
 {
@@ -25,7 +25,7 @@ pub(crate) fn event_of<A: Allocator>(now: u64, job: Job<A>) -> Event<A>
     Event::Arrive { now, datagram }
 }
 
-/// The same, with a copy of the octets.
+/// Makes the event of a job, at a moment in milliseconds: the arrival of a copy of its octets.
 pub fn job_event<A: Allocator>(alloc: A, now: u64, job: &Job<A>) -> Result<Event<A>, NoMemory>
     ensures { IfOk result (λ e. shown_event e ≡ arrives now (arrival_of (shown_job job.now))) }
 {
@@ -40,7 +40,7 @@ pub fn job_event<A: Allocator>(alloc: A, now: u64, job: &Job<A>) -> Result<Event
     Ok(Event::Arrive { now, datagram })
 }
 
-/// An equal job.
+/// Makes an equal job.
 pub fn copy_of<A: Allocator>(alloc: A, job: &Job<A>) -> Result<Job<A>, NoMemory>
     ensures { IfOk result (λ j. shown_job j ≡ shown_job job.now) }
 {

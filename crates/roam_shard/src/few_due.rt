@@ -31,7 +31,8 @@ fn few_of<A: Allocator + Copy>(entries: &Tables<A>, realm: u16, now: u64, limit:
     Some(count)
 }
 
-/// The same of a realm that may be another shard's: of that none is due.
+/// Counts the due entries of a realm that may be another shard's: of that none is due. Returns `None` where they are
+/// more than so many. Looks at no more of them.
 fn own_few<A: Allocator + Copy>(
     entries: &Tables<A>,
     own: &Option<RealmNumbers<A>>,

@@ -77,7 +77,7 @@ fn clear_others<A: Allocator + Copy>(entries: &mut Tables<A>, change: Succession
     }
 }
 
-/// The numbers of a realm that goes on, with the memory that was taken for it. Takes no memory.
+/// Carries the numbers of a realm that goes on over, with the memory that was taken for it. Takes no memory.
 fn carried<A: Allocator + Copy>(
     change: Succession<'_, '_>,
     changed: &[u16],
@@ -104,8 +104,8 @@ fn carried<A: Allocator + Copy>(
     numbers
 }
 
-/// The numbers of a realm under the new configuration: those with which it goes on, or what was made for it. Takes no
-/// memory.
+/// Returns the numbers of a realm under the new configuration: those with which it goes on, or what was made for it.
+/// Takes no memory.
 fn go_over<A: Allocator + Copy>(
     change: Succession<'_, '_>,
     changed: &[u16],
@@ -147,7 +147,7 @@ fn go_over<A: Allocator + Copy>(
     }
 }
 
-/// The numbers of all realms under the new configuration. Takes no memory.
+/// Returns the numbers of all realms under the new configuration. Takes no memory.
 fn all_over<A: Allocator + Copy>(
     change: Succession<'_, '_>,
     entries: &mut Tables<A>,

@@ -34,7 +34,7 @@ fn all_reserved<A: Allocator + Copy>(
     Ok(fresh)
 }
 
-/// Each shard follows another configuration, for which all memory is there. Takes no memory.
+/// Has each shard follow another configuration, for which all memory is there. Takes no memory.
 fn all_follow<A: Allocator + Copy>(
     old: &Config,
     new: &Config,

@@ -40,7 +40,7 @@ fn append_left<A: Allocator>(
 }
 
 impl<A: Allocator + Copy> Gathered<A> {
-    /// None of either yet, and places for so many of each.
+    /// Begins with no packets and no dues, and with places for so many of each.
     pub(crate) fn new(alloc: A, most: usize) -> Result<Gathered<A>, NoMemory>
         ensures sent { IfOk result (λ g. g.sent.items ≡ []) }
         ensures dues { IfOk result (λ g. g.dues.items ≡ []) }
@@ -55,7 +55,7 @@ impl<A: Allocator + Copy> Gathered<A> {
         })
     }
 
-    /// None of either, and no places. Takes no memory.
+    /// Begins with no packets, no dues and no places. Takes no memory.
     pub(crate) fn none(alloc: A) -> Gathered<A>
         ensures sent { result.sent.items ≡ [] }
         ensures dues { result.dues.items ≡ [] }
@@ -67,7 +67,7 @@ impl<A: Allocator + Copy> Gathered<A> {
         }
     }
 
-    /// Only these conversations that were left. Takes no memory.
+    /// Begins with only these conversations that were left. Takes no memory.
     pub(crate) fn only_left(alloc: A, left: Vec<LeftConversation<A>, A>) -> Gathered<A>
         ensures sent { result.sent.items ≡ [] }
         ensures dues { result.dues.items ≡ [] }
@@ -97,7 +97,7 @@ impl<A: Allocator + Copy> Gathered<A> {
         }
     }
 
-    /// The answer that sends them, and what happened.
+    /// Returns the answer that sends them, and what happened.
     pub(crate) fn into_turned(self) -> Turned<A>
         ensures sent { result.answer.outs ≡ self.sent.items }
         ensures refusal { result.answer.refusal ≡ None }

@@ -14,7 +14,7 @@ use roam_realm::{Gauges, RealmNumbers, RealmSettings};
 use roam_reload::is_carried;
 use std::alloc::Allocator;
 
-/// The numbers of a realm, where it is one of the shard's own.
+/// Returns the numbers of a realm, where it is one of the shard's own.
 pub(crate) fn numbers_at<A: Allocator>(
     numbers: &[Option<RealmNumbers<A>>],
     realm: u16,

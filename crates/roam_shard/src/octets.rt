@@ -7,7 +7,7 @@ ghost use Rattle.roam_shard.specs.Steps.{octets_came};
 use roam_core::Event;
 use std::alloc::Allocator;
 
-/// The octets of an event's datagram.
+/// Counts the octets of an event's datagram.
 pub(crate) fn octets_of<A: Allocator>(event: &Event<A>) -> u64
     ensures { result ≡ octets_came (shown_event event.now) }
 {

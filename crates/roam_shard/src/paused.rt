@@ -46,7 +46,7 @@ impl<'c, A: Allocator + Copy> Shard<'c, A> {
         }
     }
 
-    /// A paused shard goes on under the configuration under which it stands. Takes no memory.
+    /// Resumes a paused shard under the configuration under which it stands. Takes no memory.
     pub fn resume(config: &'c Config, paused: Paused<A>) -> Shard<'c, A>
         requires { StandsUnder (shown config.now) paused }
         ensures opening { result.opening ≡ opening_under (shown config.now) paused }

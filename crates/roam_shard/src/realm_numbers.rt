@@ -31,7 +31,7 @@ pub(crate) fn begin_at<A: Allocator + Copy>(
     }
 }
 
-/// The numbers of a realm at its start, where it is one of the shard's own.
+/// Makes the numbers of a realm at its start, where it is one of the shard's own.
 pub(crate) fn opened_at<A: Allocator + Copy>(
     alloc: A,
     config: &Config,
@@ -52,7 +52,7 @@ pub(crate) fn opened_at<A: Allocator + Copy>(
     Ok(Some(numbers))
 }
 
-/// The numbers of a shard's own realms, each at its start, in the order of all realms.
+/// Makes the numbers of a shard's own realms, each at its start, in the order of all realms.
 pub(crate) fn opened_numbers<A: Allocator + Copy>(
     alloc: A,
     config: &Config,

@@ -26,7 +26,8 @@ pub(crate) struct TickRooms<A: Allocator> {
     pub gathered: Gathered<A>,
 }
 
-/// The room of a realm, where it takes part and an entry of its own that is due waits. Any other wants none.
+/// Makes the room of a realm, where it takes part and an entry of its own that is due waits. Any other realm wants
+/// none.
 fn room_at<A: Allocator + Copy>(
     alloc: A,
     entries: &Tables<A>,
@@ -50,7 +51,7 @@ fn room_at<A: Allocator + Copy>(
     Ok(Some(room))
 }
 
-/// All the memory of a shard's tick, taken realm by realm: only for those that want it.
+/// Takes all the memory of a shard's tick, realm by realm: only for those that want it.
 pub(crate) fn room_of_shard<A: Allocator + Copy>(
     alloc: A,
     opening: &Opening<'_, A>,

@@ -74,7 +74,7 @@ fn has_name(realm: &Realm, name: &[u8]) -> bool
     !realm.gone && is_same_name(realm.name.as_bytes(), name)
 }
 
-/// The first realm that is here and has a name.
+/// Finds the first realm that isn't gone and has a name.
 fn index_named(realms: &[Realm], name: &[u8]) -> Option<u16>
     requires { length realms.now ≤ 1024 }
     ensures first { result ≡ first_place (λ r. not r.gone && str_eq_ignore_ascii_case r.name name.now)
@@ -89,7 +89,7 @@ fn index_named(realms: &[Realm], name: &[u8]) -> Option<u16>
     None
 }
 
-/// The realm that is here and has a name, if it tells its sessions so.
+/// Finds the realm that isn't gone and has a name, if it tells its sessions so.
 fn realm_named(config: &Config, name: Text<'_>, own_sessions: bool) -> Option<u16>
     ensures { (index : ℕ) → is_named (shown config.now) index (shown_text name.entry) own_sessions
         ≡ option_map_or (λ realm. index == realm) result false }

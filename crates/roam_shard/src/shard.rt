@@ -66,9 +66,9 @@ impl<'c, A: Allocator> Model for Shard<'c, A> {
 }
 
 impl<'c, A: Allocator + Copy> Shard<'c, A> {
-    /// A shard with no request pending: each of its realms begins at its start. There is one start
-    /// for each realm, by its index, and a copy is kept. `NoMemory` comes where a growth was refused;
-    /// nothing of the shard is left then.
+    /// Makes a shard with no request pending: each of its realms begins at its start. There is one start for each
+    /// realm, by its index, and a copy is kept. `NoMemory` comes where a growth was refused; nothing of the shard is
+    /// left then.
     pub fn new(
         alloc: A,
         config: &'c Config,
@@ -159,7 +159,7 @@ impl<'c, A: Allocator + Copy> Shard<'c, A> {
         handle_job(&mut realm, now, job, octets, lines)
     }
 
-    /// A tick of one realm, in the room that was made for it. Takes no memory.
+    /// Does a tick of one realm, in the room that was made for it. Takes no memory.
     fn tick_realm(&mut self, now: u64, realm: usize, room: Room<A>) -> Turned<A>
         requires there { realm < length self.old.states }
         requires own { is_in_shard self.old.opening.config self.old.opening.shard realm ≡ true }
@@ -187,7 +187,7 @@ impl<'c, A: Allocator + Copy> Shard<'c, A> {
         one.on_tick(now, room)
     }
 
-    /// A realm's part of a tick, in the room that was made for it. Without one only done entries are due, if the
+    /// Does a realm's part of a tick, in the room that was made for it. Without one only done entries are due, if the
     /// realm takes part: they go. Takes no memory.
     fn tick_one(
         &mut self,
@@ -220,7 +220,7 @@ impl<'c, A: Allocator + Copy> Shard<'c, A> {
         gathered.append(turned);
     }
 
-    /// A tick, for which there is room: the realms in rising index. Takes no memory.
+    /// Does a tick, for which there is room: the realms in rising index. Takes no memory.
     fn tick_in(&mut self, now: u64, room: TickRooms<A>) -> Turned<A>
         requires moment { now ≤ 2 ^ 62 }
         requires rooms { AreRooms self.old.opening.config now self.old.opening.shard 0 self.old.states
@@ -250,14 +250,13 @@ impl<'c, A: Allocator + Copy> Shard<'c, A> {
         gathered.into_turned()
     }
 
-    /// A tick of the shard, at a moment in milliseconds: its realms in rising index, each of whose due
-    /// entries is taken once, in order of deadline and ticket. With the answer comes what became of each request that
-    /// waited, with its octets where these lines tell of it. Refused where the moment is above 2^62 milliseconds
-    /// (`Moment`).
+    /// Does a tick of the shard, at a moment in milliseconds: its realms in rising index, each of whose due entries
+    /// is taken once, in order of deadline and ticket. With the answer comes what became of each request that waited,
+    /// with its octets where these lines tell of it. Refused where the moment is above 2^62 milliseconds (`Moment`).
     ///
-    /// Its memory is taken before anything changes, realm by realm, for those that have an entry that is due
-    /// and waits: `NoMemory` comes where a growth was refused, and the shard is then as it was. Where each
-    /// that is due was answered, so that they only go, no memory is wanted.
+    /// Its memory is taken before anything changes, realm by realm, for those that have an entry that is due and
+    /// waits: `NoMemory` comes where a growth was refused, and the shard is then as it was. Where each that is due
+    /// was answered, so that they only go, no memory is wanted.
     pub fn tick(&mut self, now: u64, lines: ExchangeLines) -> Result<Turned<A>, NoMemory>
         ensures turn { GivesTurn result self.old.states self.new.states
             (to_tick self.old.opening.config self.old.states now self.old.opening.shard)

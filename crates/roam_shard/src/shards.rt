@@ -50,9 +50,8 @@ impl<'c, A: Allocator> Model for Shards<'c, A> {
 }
 
 impl<'c, A: Allocator + Copy> Shards<'c, A> {
-    /// A broker with no request pending: each realm begins at its start, of which there is one for
-    /// each realm, by its index. `NoMemory` comes where a growth was refused; nothing of the broker is
-    /// left then.
+    /// Makes a broker with no request pending: each realm begins at its start, of which there is one for each realm,
+    /// by its index. `NoMemory` comes where a growth was refused; nothing of the broker is left then.
     pub fn new(alloc: A, config: &'c Config, starts: &[Start]) -> Result<Shards<'c, A>, NoMemory>
         requires { AreStarts (shown config.now) starts.now }
         ensures config { IfOk result (λ s. s.config ≡ shown config.now) }
@@ -69,8 +68,7 @@ impl<'c, A: Allocator + Copy> Shards<'c, A> {
         })
     }
 
-    /// A first broker: each realm begins at place 0 of its random words and ticket 0. `NoMemory` as in
-    /// `new`.
+    /// Makes a first broker: each realm begins at place 0 of its random words and ticket 0. `NoMemory` as in `new`.
     pub fn fresh(alloc: A, config: &'c Config) -> Result<Shards<'c, A>, NoMemory>
         ensures config { IfOk result (λ s. s.config ≡ shown config.now) }
         ensures states { IfOk result (λ s. s.states ≡ fresh (shown config.now)) }

@@ -38,7 +38,7 @@ impl<A: Allocator> Model for Step<A> {
 }
 
 impl<A: Allocator> Step<A> {
-    /// The step of an event, of an arrival without the wall clock's seconds. Takes no memory.
+    /// Makes the step of an event; an arrival has no seconds of the wall clock. Takes no memory.
     pub fn new(event: Event<A>) -> Step<A>
         requires { HasNoClock (shown_event event) }
         ensures { result ≡ shown_event event }

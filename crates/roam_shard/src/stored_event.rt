@@ -32,7 +32,7 @@ pub(crate) enum StoredEvent<A: Allocator> {
 }
 
 impl<A: Allocator> StoredEvent<A> {
-    /// The same event, of an arrival without the wall clock's seconds. Takes no memory.
+    /// Stores the same event; an arrival has no seconds of the wall clock. Takes no memory.
     pub(crate) fn new(event: Event<A>) -> StoredEvent<A>
         requires { HasNoClock (shown_event event) }
         ensures { shown_stored result ≡ shown_event event }

@@ -11,7 +11,7 @@ use roam_conf::{Endpoint, Place};
 use std::alloc::Allocator;
 
 impl<'c, A: Allocator + Copy> Traced<'c, A> {
-    /// The shard as it stands. Takes no memory.
+    /// Returns the shard as it stands. Takes no memory.
     pub fn shard(&self) -> &Shard<'c, A>
         ensures opening { result.now.opening ≡ self.now.opening }
         ensures states { result.now.states ≡ self.now.states }
@@ -42,7 +42,7 @@ pub enum EventRef<'s> {
 }
 
 impl<A: Allocator> Step<A> {
-    /// Its event. Takes no memory.
+    /// Returns the event of the step. Takes no memory.
     pub fn event(&self) -> EventRef<'_>
         ensures { shown_event_ref result ≡ self.now }
     {

@@ -84,7 +84,7 @@ impl<'c, A: Allocator> Model for Traced<'c, A> {
 }
 
 impl<'c, A: Allocator + Copy> Traced<'c, A> {
-    /// A shard with no steps yet: its history begins where it stands. Takes no memory.
+    /// Makes a trace of a shard with no steps yet: its history begins where it stands. Takes no memory.
     pub fn new(alloc: A, shard: Shard<'c, A>, limit: usize) -> Traced<'c, A>
         ensures { result ≡ record {
           opening = shard.entry.opening;
@@ -113,7 +113,7 @@ impl<'c, A: Allocator + Copy> Traced<'c, A> {
         self.gone + self.steps.len() as u64
     }
 
-    /// For tests: the stored steps, of which contracts see the events. Takes no memory.
+    /// For tests. Returns the stored steps, of which contracts see the events. Takes no memory.
     pub fn steps(&self) -> &[Step<A>]
         ensures { result.now ≡ self.now.events }
     {
@@ -187,9 +187,10 @@ impl<'c, A: Allocator + Copy> Traced<'c, A> {
         }
     }
 
-    /// The same, of a job that is handed in: its octets go into the stored step, and nothing is copied
-    /// but what is answered. With the answer comes what happened, with the octets of a request where these lines tell
-    /// of it. A job whose step isn't stored comes back as it was.
+    /// Takes a job of the shard that is handed in, gives it to its realm, at a moment in milliseconds, and stores the
+    /// step: the job's octets go into the stored step, and only what is answered is copied. With the answer comes
+    /// what happened, with the octets of a request where these lines tell of it. A job whose step isn't stored comes
+    /// back as it was.
     pub fn take(
         &mut self,
         now: u64,
@@ -217,7 +218,7 @@ impl<'c, A: Allocator + Copy> Traced<'c, A> {
         Ok(turned)
     }
 
-    /// A tick of the shard, at a moment in milliseconds, whose step is stored.
+    /// Does a tick of the shard, at a moment in milliseconds, and stores its step.
     ///
     /// # Errors
     ///
@@ -254,7 +255,7 @@ impl<'c, A: Allocator + Copy> Traced<'c, A> {
         mem::replace(&mut self.steps, Vec::new(self.alloc))
     }
 
-    /// The shard, and the stored steps. Takes no memory.
+    /// Returns the shard, and the stored steps. Takes no memory.
     pub fn cut(self) -> (Shard<'c, A>, Vec<Step<A>, A>)
         ensures opening { result.0.opening ≡ self.entry.opening }
         ensures states { result.0.states ≡ self.entry.states }

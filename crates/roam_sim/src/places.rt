@@ -14,7 +14,7 @@ fn cut_at_colon(text: &str) -> Option<(&str, &str)>
     text.split_once(':')
 }
 
-/// The index of a shard or of a realm.
+/// Reads the index of a shard or of a realm.
 pub(crate) fn index(text: &str) -> Option<u16>
     ensures { result ≡ spec.index_in text.now }
 {
@@ -34,7 +34,7 @@ fn nth(text: &str) -> Option<u16>
     }
 }
 
-/// A socket for requests of peers, by its kind and which of these it is.
+/// Makes the place of a socket for requests of peers, by its kind and which of these it is.
 fn peer_place(socket: &str, nth: Option<u16>) -> Option<Place>
     ensures { result ≡ spec.peer_place socket.now nth }
 {
@@ -48,7 +48,7 @@ fn peer_place(socket: &str, nth: Option<u16>) -> Option<Place>
     }
 }
 
-/// A socket of a realm, by its kind, the realm's index and which of these it is.
+/// Makes the place of a socket of a realm, by its kind, the realm's index and which of these it is.
 fn realm_place(socket: &str, realm: Option<u16>, nth: Option<u16>) -> Option<Place>
     ensures { result ≡ spec.realm_place socket.now realm nth }
 {
@@ -64,7 +64,7 @@ fn realm_place(socket: &str, realm: Option<u16>, nth: Option<u16>) -> Option<Pla
     }
 }
 
-/// A socket by its kind and one number behind it: which of these it is, or the realm's index.
+/// Reads a socket by its kind and one number behind it: which of these it is, or the realm's index.
 fn numbered_place(socket: &str, number: &str) -> Option<Place>
     ensures { result ≡ spec.place_of (socket.now ∷ number.now ∷ []) }
 {
@@ -74,7 +74,7 @@ fn numbered_place(socket: &str, number: &str) -> Option<Place>
     }
 }
 
-/// A socket by its kind and what stands behind its colon.
+/// Reads a socket by its kind and what stands behind its colon.
 #[tactic(auto, using(crate::proofs::FieldLemmas::last_fields))]
 fn place_behind(socket: &str, behind: &str) -> Option<Place>
     ensures { result ≡ spec.place_of (socket.now ∷ parts 58 behind.now) }
@@ -85,7 +85,7 @@ fn place_behind(socket: &str, behind: &str) -> Option<Place>
     }
 }
 
-/// One of the broker's sockets.
+/// Reads one of the broker's sockets.
 #[tactic(auto, using(crate::proofs::FieldLemmas::last_fields), unfolding(crate::specs::Script::place_in))]
 pub(crate) fn place(text: &str) -> Option<Place>
     ensures { result ≡ spec.place_in text.now }

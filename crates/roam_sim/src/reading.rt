@@ -30,7 +30,7 @@ fn cut_at_space(text: &str) -> Option<(&str, &str)>
     text.split_once(' ')
 }
 
-/// A moment in milliseconds.
+/// Reads a moment in milliseconds.
 fn moment(text: &str) -> Option<u64>
     ensures { result ≡ spec.moment_in text.now }
 {
@@ -45,7 +45,7 @@ fn cut_at_slash(text: &str) -> Option<(&str, &str)>
     text.split_once('/')
 }
 
-/// The moment of an arrival and, behind a slash, the wall clock's seconds, where they stand there.
+/// Reads the moment of an arrival and, behind a slash, the wall clock's seconds, where they stand there.
 #[tactic(auto, using(crate::proofs::FieldLemmas::last_fields), unfolding(crate::specs::Script::times_in))]
 fn times(text: &str) -> Option<(u64, Option<u64>)>
     ensures { result ≡ spec.times_in text.now }
@@ -81,8 +81,8 @@ fn is_decodable(text: &str) -> bool
     text.len() % 2 == 0 && are_digits(text.as_bytes())
 }
 
-/// The octets that hexadecimal digits stand for, if they are such digits and no others. That is looked
-/// at before memory is asked for.
+/// Decodes the octets that hexadecimal digits stand for, if they are such digits and no others. Looks at that before
+/// memory is asked for.
 fn decoded<A: Allocator>(alloc: A, digits: &str) -> Result<Option<Octets<A>>, NoMemory>
     ensures ok { IfOk result (λ o. o ≡ result_ok (decode_of digits.now)) }
     ensures memory { OnErr result (IsOk (decode_of digits.now)) }
@@ -96,7 +96,7 @@ fn decoded<A: Allocator>(alloc: A, digits: &str) -> Result<Option<Octets<A>>, No
     }
 }
 
-/// The octets of a datagram.
+/// Reads the octets of a datagram.
 #[tactic(auto, unfolding(crate::specs::Script::datagram_in))]
 fn datagram<A: Allocator>(alloc: A, text: &str) -> Result<Option<Octets<A>>, NoMemory>
     ensures ok { IfOk result (λ o. o ≡ spec.datagram_in text.now) }
@@ -123,7 +123,7 @@ fn tick<A: Allocator>(fields: &str) -> Option<Event<A>>
     }
 }
 
-/// An arrival, by what stands in its four fields, and whether its session is kept.
+/// Reads an arrival, by what stands in its four fields, and whether its session is kept.
 fn arrival<A: Allocator>(
     alloc: A,
     keeps_session: bool,
@@ -155,7 +155,7 @@ fn arrival<A: Allocator>(
     }
 }
 
-/// The four fields that follow the letter of an arrival; the last is all that follows the third.
+/// Cuts the four fields apart that follow the letter of an arrival; the last is all that follows the third.
 fn four_fields(fields: &str) -> Option<(&str, &str, &str, &str)>
     ensures { MatchOption result ((keeps_session : Bool) → spec.arrival_of keeps_session (parts 32 fields.now) ≡ None)
         (λ f. parts 32 fields.now ≡ f.0.now ∷ f.1.now ∷ f.2.now ∷ parts 32 f.3.now) }
@@ -183,7 +183,7 @@ fn arrival_of<A: Allocator>(
     }
 }
 
-/// The event of a line, if it states one.
+/// Reads the event of a line, if it states one.
 fn event<A: Allocator>(alloc: A, line: &str) -> Result<Option<Event<A>>, NoMemory>
     ensures ok { IfOk result (λ e. option_map shown_event e ≡ spec.event_of (parts 32 line.now)) }
     ensures memory { OnErr result (IsSome (spec.event_of (parts 32 line.now))) }
@@ -219,7 +219,7 @@ fn read_line<A: Allocator>(alloc: A, line: &str) -> Result<ScriptLine<A>, NoMemo
     }
 }
 
-/// The events that a script states, in its order.
+/// Reads the events that a script states, in its order.
 ///
 /// Each line is an event: `A now place ip:port hex` is a datagram that arrives, `A now/seconds ..` one with the wall
 /// clock's seconds, `L now ..` one whose session isn't kept, `T now shard` a tick.

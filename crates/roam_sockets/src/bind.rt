@@ -240,9 +240,9 @@ impl Sockets {
     }
 }
 
-/// The sockets of a configuration that follows another one, in order of their numbers, where the server wants so many
-/// descriptors. Those of endpoints that both have are the same, in whatever number they are open; the others are bound,
-/// beside those where the endpoints overlap (`0.0.0.0:1812`, `192.0.2.1:1812`).
+/// Binds the sockets of a configuration that follows another one, in order of their numbers, where the server wants
+/// so many descriptors. Those of endpoints that both have are the same, in whatever number they are open; the others
+/// are bound, beside those where the endpoints overlap (`0.0.0.0:1812`, `192.0.2.1:1812`).
 ///
 /// # Errors
 ///

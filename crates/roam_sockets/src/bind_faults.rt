@@ -9,7 +9,7 @@ use crate::fault::{ServeFault, reason_of};
 use roam_conf::{Config, Endpoint};
 use std::io;
 
-/// The fault of a socket that can't be bound to an endpoint, where the server wants so many descriptors.
+/// Makes the fault of a socket that can't be bound to an endpoint, where the server wants so many descriptors.
 pub(crate) fn fault_at(
     config: &Config,
     endpoint: Endpoint,
@@ -27,7 +27,7 @@ pub(crate) fn fault_at(
     }
 }
 
-/// The fault of a socket of which the system gives no second descriptor, where the server wants so many.
+/// Makes the fault of a socket of which the system gives no second descriptor, where the server wants so many.
 pub(crate) fn fault_of_copy(config: &Config, error: &io::Error, wanted: u32) -> ServeFault
     ensures { IsFaultOf (shown config.now) result }
 {

@@ -11,13 +11,13 @@ pub fn moment(last: u64, read: Option<u64>) -> u64
     read.unwrap_or(last).max(last)
 }
 
-/// The milliseconds since the beginning, where the clock can be read.
+/// Returns the milliseconds since the beginning, where the clock can be read.
 fn since<R: Clock>(rt: &R, start: Instant) -> Option<u64> {
     let elapsed = start.elapsed(rt).ok()?;
     u64::try_from(elapsed.as_millis()).ok()
 }
 
-/// The wall clock's seconds since the beginning of 1970, where it can be read.
+/// Returns the wall clock's seconds since the beginning of 1970, where it can be read.
 pub fn wall_seconds<R: Clock>(rt: &R) -> Option<u64> {
     let since = rt.since_1970().ok()?;
     Some(since.as_secs())

@@ -49,7 +49,8 @@ pub struct ControlSocket {
     file: SocketFile,
 }
 
-/// A socket at a path where no file is, which only its owner may connect to from the beginning. It listens.
+/// Binds a socket to a path where no file is, to which only its owner may connect from the beginning. The socket
+/// listens.
 fn bind_new<R: Files + Net>(rt: &R, path: &str) -> io::Result<OwnedFd> {
     let fd = rt.unix_socket()?;
     if libc::fchmod(fd.as_raw_fd(), MODE) != 0 {
@@ -62,7 +63,7 @@ fn bind_new<R: Files + Net>(rt: &R, path: &str) -> io::Result<OwnedFd> {
     Ok(fd)
 }
 
-/// The socket at a path; none where there is something else, a link to a socket too.
+/// Finds the socket at a path. Returns `None` where there is something else, a link to a socket too.
 fn socket_at<R: Files>(rt: &R, path: &str) -> io::Result<Option<SocketFile>> {
     let metadata = symlink_metadata(rt, path)?;
     if metadata.file_type().is_socket() {

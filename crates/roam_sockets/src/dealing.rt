@@ -12,7 +12,7 @@ use crate::socket::Socket;
 use roam_port::{nth_of, socket_of};
 use std::alloc::Global;
 
-/// The sockets that one worker receives from: all that it hears, each at the place for which it was bound.
+/// Lists the sockets that one worker receives from: all that it hears, each at the place for which it was bound.
 ///
 /// # Errors
 ///
@@ -41,7 +41,7 @@ fn is_own(bound: &BoundSocket, worker: usize) -> bool
     !bound.is_spread || bound.worker == worker
 }
 
-/// So many times one socket.
+/// Lists one socket so many times.
 fn ports_of<'s>(
     alloc: Global,
     socket: Socket<'s>,
@@ -57,10 +57,10 @@ fn ports_of<'s>(
     Ok(ports)
 }
 
-/// The sockets from which a worker sends, each at the number of its place, and there at its place of those of that
-/// number, of so many numbers: of a place that has several, its own. The timer, whose number is above those of the
-/// workers, has those of the first one. The number of a `reverse` that isn't there is nobody's, so no packet leaves by
-/// what stands there.
+/// Lists the sockets from which a worker sends, each at the number of its place, and there at its place of those of
+/// that number, of so many numbers: of a place that has several, its own. The timer, whose number is above those of
+/// the workers, has those of the first one. The number of a `reverse` that isn't there is no socket's, so no packet
+/// leaves by the socket that stands there.
 ///
 /// # Errors
 ///

@@ -24,7 +24,7 @@ pub struct SocketPath {
 }
 
 impl SocketPath {
-    /// The first 107 octets of a path: a socket's has no more.
+    /// Keeps the first 107 octets of a path: the path of a socket has no more.
     pub fn new(path: &str) -> SocketPath
         ensures { path_octets result ≡ take 107 path.now }
     {
@@ -37,7 +37,7 @@ impl SocketPath {
         }
     }
 
-    /// Its octets.
+    /// Returns the path's octets.
     pub fn octets(&self) -> &[u8]
         ensures { result.now ≡ path_octets self.now }
     {
@@ -75,7 +75,7 @@ pub enum ServeFault {
 /// The number of the error of a process that has as many descriptors as it may (EMFILE).
 const TOO_MANY_OPEN_FILES: u32 = 24;
 
-/// The system's reason.
+/// Returns the system's reason.
 pub fn reason_of(error: &io::Error) -> Reason {
     match error.raw_os_error() {
         Some(number) => Reason(u32::try_from(number).unwrap_or(0)),

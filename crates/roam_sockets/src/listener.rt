@@ -10,7 +10,7 @@ use std::os::fd::AsRawFd;
 /// The number of connections that may wait to be taken.
 const WAITING: i32 = 16;
 
-/// A socket for connections of an endpoint's kind that isn't bound yet, and doesn't wait.
+/// Opens a socket for connections of an endpoint's kind that isn't bound yet, and doesn't wait.
 fn unbound(endpoint: Endpoint) -> io::Result<TcpListener> {
     let kind = libc::net::SOCK_STREAM | libc::net::SOCK_CLOEXEC | libc::net::SOCK_NONBLOCK;
     let fd = unsafe { libc::net::socket(family_of(endpoint), kind, 0) };
@@ -20,7 +20,7 @@ fn unbound(endpoint: Endpoint) -> io::Result<TcpListener> {
     Ok(unsafe { TcpListener::from_raw_fd(fd) })
 }
 
-/// A socket that takes connections at this endpoint, and doesn't wait.
+/// Binds a socket that takes connections at this endpoint, and doesn't wait.
 pub fn listen_at(endpoint: Endpoint) -> io::Result<TcpListener> {
     let listener = unbound(endpoint)?;
     let fd = listener.as_raw_fd();

@@ -26,7 +26,7 @@ pub(crate) fn overlaps(a: Endpoint, b: Endpoint) -> bool
     a.port == b.port && is_same_kind(a, b) && (a.ip == b.ip || is_every(a.ip) || is_every(b.ip))
 }
 
-/// The endpoint of the first socket that is open at a place which overlaps this one.
+/// Finds the endpoint of the first socket that is open at a place which overlaps this one.
 pub fn open_beside(open: &[BoundSocket], endpoint: Endpoint) -> Option<Endpoint>
     ensures { IfSome result (λ beside. overlap beside endpoint ≡ true) }
 {
@@ -62,8 +62,8 @@ fn is_wanted(config: &Config, endpoint: Endpoint) -> bool {
     false
 }
 
-/// Those beside which a socket may be bound to an endpoint of a configuration: all that are open, where none of those
-/// that it overlaps stays; else none, for at a start the system wouldn't let both be bound.
+/// Returns the sockets beside which a socket may be bound to an endpoint of a configuration: all that are open, where
+/// none of those that it overlaps stays; else none, since at a start the system wouldn't let both be bound.
 pub(crate) fn beside_which<'s>(
     config: &Config,
     endpoint: Endpoint,
@@ -88,8 +88,8 @@ pub(crate) fn share(open: &[BoundSocket], endpoint: Endpoint, is_shared: bool) {
     }
 }
 
-/// A socket that doesn't wait: beside those that are open where it overlaps one of them, and nobody else's comes in
-/// between from then on.
+/// Binds a socket that doesn't wait. Where it overlaps one of those that are open, it is bound beside them, and no
+/// other program's socket comes in between from then on.
 pub(crate) fn bind_one<R: Net>(
     rt: &R,
     endpoint: Endpoint,

@@ -7,7 +7,7 @@ use std::io;
 use std::net::{Net, UdpSocket};
 use std::os::fd::AsRawFd;
 
-/// A socket for datagrams of an endpoint's kind that isn't bound yet, and doesn't wait.
+/// Opens a socket for datagrams of an endpoint's kind that isn't bound yet, and doesn't wait.
 fn unbound(endpoint: Endpoint) -> io::Result<UdpSocket> {
     let kind = libc::net::SOCK_DGRAM | libc::net::SOCK_CLOEXEC | libc::net::SOCK_NONBLOCK;
     let fd = unsafe { libc::net::socket(family_of(endpoint), kind, 0) };
@@ -17,7 +17,7 @@ fn unbound(endpoint: Endpoint) -> io::Result<UdpSocket> {
     Ok(unsafe { UdpSocket::from_raw_fd(fd) })
 }
 
-/// A socket of IPv6 that doesn't wait.
+/// Binds a socket of IPv6 that doesn't wait.
 fn bind_ipv6(endpoint: Endpoint) -> io::Result<UdpSocket> {
     let socket = unbound(endpoint)?;
     if !bind_to(socket.as_raw_fd(), endpoint) {
@@ -26,7 +26,7 @@ fn bind_ipv6(endpoint: Endpoint) -> io::Result<UdpSocket> {
     Ok(socket)
 }
 
-/// A socket that doesn't wait.
+/// Binds a socket that doesn't wait.
 pub(crate) fn bind<R: Net>(rt: &R, endpoint: Endpoint) -> io::Result<UdpSocket> {
     if endpoint.ip.is_ipv6() {
         return bind_ipv6(endpoint);
@@ -36,8 +36,8 @@ pub(crate) fn bind<R: Net>(rt: &R, endpoint: Endpoint) -> io::Result<UdpSocket> 
     Ok(socket)
 }
 
-/// A socket that doesn't wait, beside which others may be bound to the same endpoint: the system picks the
-/// one to which a datagram goes by its source.
+/// Binds a socket that doesn't wait, beside which others may be bound to the same endpoint: the system picks the one
+/// to which a datagram goes by its source.
 pub(crate) fn bind_beside(endpoint: Endpoint) -> io::Result<UdpSocket> {
     let socket = unbound(endpoint)?;
     let fd = socket.as_raw_fd();

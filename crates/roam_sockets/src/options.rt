@@ -37,7 +37,7 @@ fn set_ipv6_only(fd: RawFd) -> bool {
     }
 }
 
-/// The kind of an endpoint's address, as the system takes it.
+/// Returns the kind of an endpoint's address, as the system takes it.
 pub fn family_of(endpoint: Endpoint) -> i32
     ensures { Family result }
 {
@@ -48,7 +48,7 @@ pub fn family_of(endpoint: Endpoint) -> i32
     }
 }
 
-/// The octets of an endpoint's address, as the system takes them, and how many of them those are.
+/// Returns the octets of an endpoint's address, as the system takes them, and how many of them there are.
 fn address_octets(endpoint: Endpoint) -> ([u8; 128], u32)
     ensures { result.1 ≤ 128 }
 {

@@ -39,7 +39,7 @@ impl<P: Copy> Drop for PlaceSockets<P> {
 }
 
 impl<P: Copy> PlaceSockets<P> {
-    /// One socket.
+    /// Makes the list of one socket.
     pub fn new(alloc: Global, first: P) -> PlaceSockets<P>
         ensures { socket_at result 0 ≡ Some first }
     {
@@ -52,7 +52,7 @@ impl<P: Copy> PlaceSockets<P> {
         }
     }
 
-    /// The socket of a place of those of the number, if there is one.
+    /// Returns the socket of a place of those of the number, if there is one.
     fn at(&self, nth: usize) -> Option<P>
         ensures { result ≡ socket_at self.now nth }
     {
@@ -62,7 +62,7 @@ impl<P: Copy> PlaceSockets<P> {
         self.further.get(nth - 1).copied()
     }
 
-    /// A place of those of the number gets a socket.
+    /// Puts a socket at a place of those of the number.
     pub fn put(&mut self, nth: usize, socket: P) -> Result<(), AllocError>
         ensures { OnOk result (IsPut nth socket self.old self.new) }
     {
@@ -79,7 +79,7 @@ impl<P: Copy> PlaceSockets<P> {
 }
 
 impl PlaceSockets<Socket<'_>> {
-    /// The system's number for the one that had no room when it was last tried.
+    /// Returns the system's number for the socket that had no room when it was last tried.
     pub fn descriptor(&self) -> RawFd {
         match self.at(self.blocked) {
             Some(socket) => socket.descriptor(),
@@ -103,7 +103,7 @@ impl<P: Copy> PlaceSockets<P> {
         self.unreachable.take()
     }
 
-    /// The system is asked to tell when that one has room for a packet, or is asked no more.
+    /// Notes whether the system is asked to tell when the socket without room has room for a packet.
     pub fn set_watched(&mut self, is_watched: bool) {
         self.is_watched = is_watched;
     }

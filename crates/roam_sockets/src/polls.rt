@@ -41,7 +41,7 @@ impl Polls {
     }
 }
 
-/// The fault of what the system doesn't give to wait with.
+/// Makes the fault of what the system doesn't give to wait with.
 fn fault_of(error: &io::Error, wanted: u32) -> ServeFault
     ensures { IsAfterBinding result }
 {

@@ -30,7 +30,7 @@ pub struct Receiver<'s> {
 }
 
 impl<'s> Receiver<'s> {
-    /// A socket at which nothing is known to be there.
+    /// Makes a receiver of a socket at which nothing is known to be there.
     pub fn new(socket: Socket<'s>, place: Place) -> Receiver<'s>
         ensures socket { result.socket ≡ socket.entry }
         ensures place { result.place ≡ place }

@@ -8,7 +8,7 @@ use crate::fault::ServeFault;
 use roam_conf::Config;
 use std::random::RandomSource;
 
-/// This configuration with another seed.
+/// Gives this configuration another seed.
 fn with_seed(config: Config, seed: [u8; 32]) -> Config
     ensures { shown result ≡ seeded (shown config) seed }
 {
@@ -17,7 +17,7 @@ fn with_seed(config: Config, seed: [u8; 32]) -> Config
     config
 }
 
-/// The configuration with a seed that is drawn from the system. No contract speaks of which it is.
+/// Gives the configuration a seed that is drawn from the system. No contract says which seed it is.
 ///
 /// # Errors
 ///

@@ -56,14 +56,14 @@ pub struct Socket<'s> {
 }
 
 impl<'s> Socket<'s> {
-    /// The socket is one that doesn't wait.
+    /// Takes a socket that doesn't wait.
     pub fn new(socket: &'s UdpSocket) -> Socket<'s>
         ensures { result.socket.now ≡ socket.now }
     {
         Socket { socket }
     }
 
-    /// The system's number for it.
+    /// Returns the system's number for the socket.
     pub fn descriptor(&self) -> RawFd {
         self.socket.as_raw_fd()
     }
@@ -77,7 +77,7 @@ impl<'s> Socket<'s> {
     }
 }
 
-/// A datagram of so many octets, with its source, where that has an address here.
+/// Returns a datagram of so many octets, with its source, where that has an address here.
 fn received(size: usize, from: SocketAddr) -> Option<(usize, Endpoint)>
     ensures { IfSome result (λ got. got.0 ≡ size) }
 {

@@ -50,7 +50,7 @@ pub(crate) fn wanted_at(config: &Config, place: Place) -> usize
     }
 }
 
-/// The worker that hears a socket of a place, by how many came there before it.
+/// Returns the worker that hears a socket of a place, by how many came there before it.
 pub(crate) fn worker_of_nth(config: &Config, place: Place, before: usize) -> usize {
     let workers = usize::from(config.top.shards);
     if is_spread_at(config, place) {

@@ -41,7 +41,7 @@ impl Redial {
         }
     }
 
-    /// It is dialed at this moment.
+    /// Notes that it is dialed at this moment.
     pub fn begin(&mut self, now: u64)
         ensures dialed_at { self.new.dialed_at ≡ Some now }
         ensures delay { self.new.delay ≡ self.old.delay }
@@ -49,8 +49,8 @@ impl Redial {
         self.dialed_at = Some(now);
     }
 
-    /// Its connection ended, on which a packet came or none: it may be dialed again 500 ms after it was, or after
-    /// twice the time as before, 8,000 ms at most.
+    /// Notes that its connection ended, on which a packet came or none: it may be dialed again 500 ms after it was,
+    /// or after twice the time as before, 8,000 ms at most.
     pub fn end(&mut self, packet_came: bool)
         ensures dialed_at { self.new.dialed_at ≡ self.old.dialed_at }
         ensures delay { self.new.delay ≡ delay_after packet_came self.old.delay }

@@ -148,7 +148,7 @@ impl<A: Allocator> Stream<A> {
         }
     }
 
-    /// The system took the first octets to write, so many.
+    /// Removes the first octets to write, so many, which the system took.
     pub fn remove_written(&mut self, count: usize)
         ensures { IsStep (wrote (take count self.old.unwritten)) (kept_of self.old) (kept_of self.new) }
     {

@@ -214,7 +214,7 @@ impl<A: Allocator> TakenStream<A> {
         self.stream.unwritten()
     }
 
-    /// The system took the first octets to write, so many.
+    /// Removes the first octets to write, so many, which the system took.
     pub fn remove_written(&mut self, count: usize)
         ensures step { IsStep (wrote (take count self.old.stream.unwritten))
             (kept_of self.old.stream) (kept_of self.new.stream) }

@@ -15,7 +15,7 @@ pub(crate) struct DueMark {
     pub is_done: bool,
 }
 
-/// Until when an entry stands as it does, in milliseconds.
+/// Returns the moment until which an entry stands as it does, in milliseconds.
 fn deadline_of<A: Allocator>(standing: &Standing<A>) -> u64
     ensures { result ≡ deadline_of (shown_standing standing.now) }
 {
@@ -35,7 +35,7 @@ fn stands_done<A: Allocator>(standing: &Standing<A>) -> bool
     }
 }
 
-/// The mark of an entry.
+/// Returns the mark of an entry.
 pub(crate) fn mark_of<A: Allocator>(entry: &Entry<A>) -> DueMark
     ensures { result ≡ mark_of (shown entry.now) }
 {

@@ -57,7 +57,7 @@ pub(crate) type TicketIndex<A> = IndexMap<TicketKey, usize, BuildHasherDefault<F
 /// The slot of each request's key. Who picks keys doesn't know where they lie.
 pub(crate) type ClientIndex<A> = IndexMap<ClientKey, usize, HashKey, A>;
 
-/// The slot of a ticket.
+/// Finds the slot of a ticket.
 pub(crate) fn ticket_slot<A: Allocator + Copy>(
     index: &TicketIndex<A>,
     key: TicketKey,
@@ -67,7 +67,7 @@ pub(crate) fn ticket_slot<A: Allocator + Copy>(
     index.get(&key).copied()
 }
 
-/// The slot of a request's key.
+/// Finds the slot of a request's key.
 pub(crate) fn client_slot<A: Allocator + Copy>(
     index: &ClientIndex<A>,
     key: ClientKey,

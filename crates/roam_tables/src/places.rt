@@ -70,7 +70,7 @@ pub(crate) fn start_after<T: Ord + Copy, A: Allocator>(
     }
 }
 
-/// The first place from one on whose item didn't go.
+/// Finds the first place from `start` on whose item didn't go.
 pub(crate) fn next_place<A: Allocator>(marks: &VecDeque<bool, A>, start: usize) -> Option<usize>
     ensures { IsNextPlaceOf marks.now.items start result }
 {

@@ -13,7 +13,7 @@ use roam_wire::NoMemory;
 use std::alloc::Allocator;
 use std::collections::VecDeque;
 
-/// The first due after the last one, if there was one.
+/// Finds the first due after the last one, if there was one.
 pub(crate) fn next_due<A: Allocator>(run: &Run<Due, A>, last: Option<Due>) -> Option<Due>
     ensures { IsNextOf last (AmongRun run.now.items) result }
 {

@@ -58,7 +58,7 @@ impl<A: Allocator> RealmQueues<A> {
         self.tickets.make_room(most)
     }
 
-    /// An entry of this mark comes in. Takes no memory.
+    /// Adds an entry of this mark. Takes no memory.
     pub fn add(&mut self, mark: DueMark)
         requires { CanEnter mark self.old }
         ensures { Enters mark self.old self.new }
@@ -71,7 +71,7 @@ impl<A: Allocator> RealmQueues<A> {
         }
     }
 
-    /// An entry of this mark goes.
+    /// Takes an entry of this mark out.
     pub fn take(&mut self, mark: DueMark)
         requires { CanLeave mark self.old }
         ensures { Leaves mark self.old self.new }
@@ -84,7 +84,7 @@ impl<A: Allocator> RealmQueues<A> {
         }
     }
 
-    /// An entry of one mark has another one now. Takes no memory.
+    /// Gives an entry of one mark another one. Takes no memory.
     pub fn change(&mut self, from: DueMark, to: DueMark)
         requires leaves { CanLeave from self.old }
         requires enters { (q : _) → Leaves from self.old q → CanEnter to q }
@@ -96,7 +96,7 @@ impl<A: Allocator> RealmQueues<A> {
         }
     }
 
-    /// The first due after the last one, if there was one.
+    /// Finds the first due after the last one, if there was one.
     pub fn next(&self, last: Option<Due>) -> Option<Due>
         ensures { IsNextOf last (AmongBoth self.now.waits.items self.now.holds.items) result }
     {
@@ -117,7 +117,7 @@ impl<A: Allocator> RealmQueues<A> {
         }
     }
 
-    /// The least ticket of a done entry, besides one that counts as gone.
+    /// Finds the least ticket of a done entry, besides one that counts as gone.
     pub fn first_done(&self, except: Option<u64>) -> Option<u64>
         ensures { IsFirstBesides except self.now.tickets.items result }
     {
@@ -134,7 +134,7 @@ impl<A: Allocator> RealmQueues<A> {
 }
 
 impl<A: Allocator + Copy> RealmQueues<A> {
-    /// The runs of no entry. Takes no memory.
+    /// Makes the runs of no entry. Takes no memory.
     pub fn new(alloc: A) -> RealmQueues<A>
         ensures { AreEmpty result }
     {

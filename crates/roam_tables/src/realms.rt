@@ -11,7 +11,7 @@ use crate::realm_queues::RealmQueues;
 use roam_wire::NoMemory;
 use std::alloc::Allocator;
 
-/// The runs of so many realms without entries.
+/// Makes the runs of so many realms without entries.
 pub(crate) fn no_entries<A: Allocator + Copy>(
     alloc: A,
     count: usize,
@@ -48,7 +48,7 @@ pub(crate) fn add_empty<A: Allocator + Copy>(
     Ok(())
 }
 
-/// The runs of a realm, if it is kept here.
+/// Returns the runs of a realm, if it is kept here.
 pub(crate) fn runs_of<A: Allocator>(
     realms: &Vec<RealmQueues<A>, A>,
     realm: u16,
@@ -71,7 +71,7 @@ pub(crate) fn make_room_at<A: Allocator>(
     realms[usize::from(realm)].reserve()
 }
 
-/// An entry of a realm comes in. Takes no memory.
+/// Adds an entry of a realm. Takes no memory.
 pub(crate) fn add_at<A: Allocator>(realms: &mut Vec<RealmQueues<A>, A>, realm: u16, mark: DueMark)
     requires within { realm < length realms.old.items }
     requires can { (q : _) → slice_get realms.old.items realm ≡ Some q → CanEnter mark q }
@@ -80,7 +80,7 @@ pub(crate) fn add_at<A: Allocator>(realms: &mut Vec<RealmQueues<A>, A>, realm: u
     realms[usize::from(realm)].add(mark);
 }
 
-/// An entry of a realm goes.
+/// Takes an entry of a realm out.
 pub(crate) fn take_at<A: Allocator>(realms: &mut Vec<RealmQueues<A>, A>, realm: u16, mark: DueMark)
     requires within { realm < length realms.old.items }
     requires can { (q : _) → slice_get realms.old.items realm ≡ Some q → CanLeave mark q }
@@ -89,7 +89,7 @@ pub(crate) fn take_at<A: Allocator>(realms: &mut Vec<RealmQueues<A>, A>, realm: 
     realms[usize::from(realm)].take(mark);
 }
 
-/// An entry of a realm has another mark now. Takes no memory.
+/// Gives an entry of a realm another mark. Takes no memory.
 pub(crate) fn change_at<A: Allocator>(
     realms: &mut Vec<RealmQueues<A>, A>,
     realm: u16,

@@ -44,7 +44,7 @@ pub(crate) struct RoundRun<A: Allocator> {
 /// The run of each hash that has one.
 pub(crate) type RoundIndex<A> = IndexMap<RoundKey, RoundRun<A>, HashKey, A>;
 
-/// The run of a hash, if there is one.
+/// Finds the run of a hash, if there is one.
 pub(crate) fn run_of<A: Allocator + Copy>(
     index: &RoundIndex<A>,
     key: RoundKey,
@@ -86,7 +86,7 @@ fn join_there<A: Allocator + Copy>(
     }
 }
 
-/// A run of one ticket.
+/// Makes a run of one ticket.
 fn run_of_one<A: Allocator>(alloc: A, ticket: u64) -> Result<RoundRun<A>, NoMemory>
     ensures { IfOk result (λ run. run.tickets.items ≡ ticket ∷ []) }
 {

@@ -18,7 +18,7 @@ use roam_wire::NoMemory;
 use slab::Slab;
 use std::alloc::Allocator;
 
-/// The hash of the round of a request's sender and a State, where it is a peer and there is one.
+/// Returns the hash of the round of a request's sender and a State, where it is a peer and there is one.
 fn hash_with(key: HashKey, requester: Requester, state: Option<&[u8]>) -> Option<u64>
     ensures { result ≡ option_map (round_hash key)
         (round_with requester (option_map (λ s. s.now) state.entry)) }
@@ -32,14 +32,14 @@ fn hash_with(key: HashKey, requester: Requester, state: Option<&[u8]>) -> Option
     }
 }
 
-/// The hash of the round that an entry keeps, if it keeps one.
+/// Returns the hash of the round that an entry keeps, if it keeps one.
 pub(crate) fn kept_hash<A: Allocator>(key: HashKey, entry: &Entry<A>) -> Option<u64>
     ensures { result ≡ kept_hash key (shown entry.now) }
 {
     hash_with(key, entry.request.requester, entry.standing.kept_state())
 }
 
-/// The hash of the round that an entry keeps, and of the one that it would keep if it stood otherwise.
+/// Returns the hash of the round that an entry keeps, and of the one that it would keep if it stood otherwise.
 fn two_hashes<A: Allocator>(
     key: HashKey,
     entry: &Entry<A>,
@@ -55,7 +55,8 @@ fn two_hashes<A: Allocator>(
     )
 }
 
-/// The same of the entry of a slot.
+/// Returns the hash of the round that the entry of a slot keeps, and of the one that it would keep if it stood
+/// otherwise.
 pub(crate) fn hashes_in<A: Allocator>(
     slots: &Slab<Slot<A>, A>,
     at: usize,
@@ -73,8 +74,8 @@ pub(crate) fn hashes_in<A: Allocator>(
     }
 }
 
-/// The hash of the round that the entry of a slot loses where it has another link then, or none: what it keeps, if no
-/// link is given.
+/// Returns the hash of the round that the entry of a slot loses where it has another link then, or none: what it
+/// keeps, if no link is given.
 pub(crate) fn lost_hash_in<A: Allocator>(
     slots: &Slab<Slot<A>, A>,
     at: usize,
@@ -95,7 +96,7 @@ pub(crate) fn lost_hash_in<A: Allocator>(
     }
 }
 
-/// A ticket of a realm comes into the run of a hash, if there is one. Where a growth was refused all is as it was.
+/// Adds a ticket of a realm to the run of a hash, if there is one. Where a growth was refused all is as it was.
 fn come<A: Allocator + Copy>(
     alloc: A,
     rounds: &mut RoundIndex<A>,
@@ -114,7 +115,7 @@ fn come<A: Allocator + Copy>(
     }
 }
 
-/// A ticket of a realm goes out of the run of a hash, if there is one. Takes no memory.
+/// Takes a ticket of a realm out of the run of a hash, if there is one. Takes no memory.
 pub(crate) fn go<A: Allocator + Copy>(
     rounds: &mut RoundIndex<A>,
     realm: u16,
@@ -130,7 +131,7 @@ pub(crate) fn go<A: Allocator + Copy>(
     }
 }
 
-/// A ticket of a realm goes from the run of one hash to that of another one. Where a growth was refused all is as it
+/// Moves a ticket of a realm from the run of one hash to that of another one. Where a growth was refused all is as it
 /// was.
 pub(crate) fn move_round<A: Allocator + Copy>(
     alloc: A,

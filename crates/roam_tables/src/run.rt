@@ -206,7 +206,7 @@ impl<T: Ord + Copy, A: Allocator> Run<T, A> {
         self.live -= 1;
     }
 
-    /// The first item after the last one, if there was one.
+    /// Finds the first item after the last one, if there was one.
     pub fn after(&self, last: Option<T>) -> Option<T>
         ensures { IsFirstAfterOf T.cmp last self.now.items result }
     {
@@ -218,7 +218,7 @@ impl<T: Ord + Copy, A: Allocator> Run<T, A> {
 }
 
 impl<T: Ord, A: Allocator + Copy> Run<T, A> {
-    /// A run of no item. Takes no memory.
+    /// Makes a run without items. Takes no memory.
     pub fn new(alloc: A) -> Run<T, A>
         requires { IsExactOrder T.cmp }
         ensures { result.items ≡ [] }

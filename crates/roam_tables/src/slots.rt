@@ -123,7 +123,7 @@ pub(crate) fn set_course<A: Allocator>(slots: &mut Slab<Slot<A>, A>, at: usize, 
     }
 }
 
-/// The entry of a slot.
+/// Returns the entry of a slot.
 pub(crate) fn entry_in<A: Allocator>(slots: &Slab<Slot<A>, A>, at: usize) -> Option<&Entry<A>>
     ensures { seen result ≡ option_map (λ x. x.entry) (place slots.now at) }
 {

@@ -86,7 +86,7 @@ impl<A: Allocator> Model for Tables<A> {
 }
 
 impl<A: Allocator + Copy> Tables<A> {
-    /// The tables of so many realms without entries, whose hashes have this key.
+    /// Makes the tables of so many realms without entries, whose hashes have this key.
     pub fn new(alloc: A, key: HashKey, realms: usize) -> Result<Tables<A>, NoMemory>
         ensures realms { IfOk result (λ t. length t ≡ realms) }
         ensures entries { IfOk result (λ t. (r : ℕ) → entries_in t r ≡ []) }

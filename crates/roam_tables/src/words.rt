@@ -6,14 +6,14 @@ ghost use Rattle.roam_tables.specs.Private.Words.{key_word, place_number, realm_
 use roam_conf::Place;
 use roam_pending::Key;
 
-/// A realm in the two highest octets of a word, and a number of the realm in all of it.
+/// Makes a word of a realm, in the two highest octets, and of a number of the realm in all of it: the two are XORed.
 pub(crate) fn realm_word(realm: u16, of_realm: u64) -> u64
     ensures { result ≡ realm_word realm of_realm }
 {
     (realm as u64) << 48 ^ of_realm
 }
 
-/// The kind of a socket, and its number among those of the kind.
+/// Returns a number for the kind of a socket, and its number among those of the kind.
 fn place_number(place: Place) -> u64
     ensures { result ≡ place_number place }
 {
@@ -25,7 +25,7 @@ fn place_number(place: Place) -> u64
     }
 }
 
-/// Of a request's key all but the address and the realm of its socket.
+/// Makes a word of a request's key, without the address and the realm of its socket.
 pub(crate) fn key_word(key: &Key) -> u64
     ensures { result ≡ key_word key.now }
 {

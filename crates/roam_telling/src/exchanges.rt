@@ -93,8 +93,8 @@ impl Drop for Exchanges {
     }
 }
 
-/// A queue of lines, of exchanges of which these tell: the end of the thread that has them, and that of the one who
-/// tells them.
+/// Makes a queue of lines, of exchanges of which these tell. Returns the end of the thread that has them, and the end
+/// of the thread that tells them.
 pub fn queue_of_lines(
     alloc: Global,
     told: ExchangeLines,
@@ -260,8 +260,8 @@ impl Exchanges {
         is_due
     }
 
-    /// In how many milliseconds a line is to be put, or the logger to be woken, which is woken so long after a line was
-    /// put; 2^64 - 1 where no line waits for that.
+    /// Returns in how many milliseconds a line is to be put, or the logger to be woken, which is woken so long after
+    /// a line was put; 2^64 - 1 where no line waits for that.
     pub fn time_left(&self, now: u64, within: u64) -> u64 {
         let due = self.folded_due.unwrap_or(u64::MAX);
         match self.waits_since {
@@ -275,7 +275,7 @@ impl Exchanges {
         self.queue.dropped
     }
 
-    /// It is said.
+    /// Sets the count of dropped lines back to 0, once it was said.
     pub fn forget_dropped(&mut self) {
         self.queue.dropped = 0;
     }

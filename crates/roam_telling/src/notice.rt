@@ -88,7 +88,7 @@ const NOWHERE: Endpoint = Endpoint {
     port: 0,
 };
 
-/// The endpoint of a link of a realm, and the realm's name.
+/// Returns the endpoint of a link of a realm, and the realm's name.
 fn link_text(config: &Config, number: u16, link: Link) -> LinkText<'_> {
     match config.realms.get(usize::from(number)) {
         Some(realm) => LinkText {

@@ -60,7 +60,7 @@ impl Drop for Notices {
     }
 }
 
-/// A queue of notices: the end of the thread that has them, and that of the one who tells them.
+/// Makes a queue of notices. Returns the end of the thread that has them, and the end of the thread that tells them.
 pub fn queue_of_notices(alloc: Global) -> Result<(Notices, Consumer<Notice>), AllocError> {
     let (queue, told) = RingBuffer::new(alloc, NOTICES)?;
     let notices = Notices {
@@ -217,7 +217,7 @@ impl Notices {
         }
     }
 
-    /// In how many milliseconds it is to be told; 2^64 - 1 where nothing was refused.
+    /// Returns in how many milliseconds it is to be told; 2^64 - 1 where nothing was refused.
     pub fn time_left(&self, now: u64) -> u64
         ensures { MatchOption self.now.due (result ≡ 2 ^ 64 - 1) (λ due. result ≡ due - now) }
     {

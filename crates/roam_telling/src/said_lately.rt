@@ -37,7 +37,7 @@ fn is_recent(said: &Said, replies: &TurnedAway, now: u64) -> bool
 }
 
 impl SaidLately {
-    /// Of none.
+    /// Begins with no server of which anything was said.
     pub fn new() -> SaidLately {
         let none = Said {
             realm: 0,
@@ -64,7 +64,7 @@ impl SaidLately {
         false
     }
 
-    /// A row whose minute is over.
+    /// Finds a row whose minute is over.
     fn free(&self, now: u64) -> Option<usize>
         ensures { IfSome result (λ i. IsSomeAnd (slice_get self.now.rows i) (λ said. said.until ≤ now)) }
     {

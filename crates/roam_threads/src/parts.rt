@@ -26,7 +26,7 @@ pub struct Parts<N: Opened> {
     pub seat: Seat<Global, N>,
 }
 
-/// An outbox, or where there is none one in which nothing waits, and that grows as its thread starts.
+/// Returns an outbox, or where there is none makes one in which nothing waits, and that grows as its thread starts.
 fn outbox_or_new(
     alloc: Global,
     outbox: Option<Outbox<Global>>,
@@ -39,7 +39,7 @@ fn outbox_or_new(
     }
 }
 
-/// A part, with a seat that is split off this one; and what is left of that.
+/// Makes a part, with a seat that is split off this one. Returns what is left of that seat, and the part.
 fn part_of<N: Opened>(
     seat: Seat<Global, N>,
     outbox: Outbox<Global>,
@@ -53,7 +53,7 @@ fn part_of<N: Opened>(
     }
 }
 
-/// The parts of all threads.
+/// Makes the parts of all threads.
 pub fn parts_of<N: Opened>(
     alloc: Global,
     seat: Seat<Global, N>,

@@ -155,8 +155,8 @@ impl<'s, 'c, H, N: Opened> Builder<'s, 'c, H, N> {
         })
     }
 
-    /// A worker of this number. Two events more than it has sockets may come: that it is woken, and that sockets have
-    /// room again.
+    /// Makes a worker of this number. Two events more than it has sockets may come: that it is woken, and that
+    /// sockets have room again.
     fn worker(&mut self, number: usize, part: Part<N>) -> Result<Worker<'s, 'c, H, N>, ServeFault>
         ensures { IfErr result IsAfterBinding }
     {
@@ -182,7 +182,7 @@ impl<'s, 'c, H, N: Opened> Builder<'s, 'c, H, N> {
         })
     }
 
-    /// All workers, by their numbers.
+    /// Makes all workers, by their numbers.
     fn workers(&mut self, parts: Vec<Part<N>>) -> Result<Vec<Worker<'s, 'c, H, N>>, ServeFault>
         ensures { IfErr result IsAfterBinding }
     {
@@ -194,7 +194,7 @@ impl<'s, 'c, H, N: Opened> Builder<'s, 'c, H, N> {
         Ok(workers)
     }
 
-    /// The timer.
+    /// Makes the timer.
     fn timer(&mut self, part: Part<N>, rests: Rests) -> Result<Timer<'s, 'c, H, N>, ServeFault>
         ensures { IfErr result IsAfterBinding }
     {
@@ -218,9 +218,9 @@ impl<'s, 'c, H, N: Opened> Builder<'s, 'c, H, N> {
     }
 }
 
-/// The threads of a configuration: a worker for each shard, the timer and the logger; and the seat of the server's own
-/// thread. Each that takes part in the hub has its kit, an outbox, in which packets may wait that others left there,
-/// and a seat that is split off this one.
+/// Makes the threads of a configuration: a worker for each shard, the timer and the logger. Returns them with the
+/// seat of the server's own thread. Each that takes part in the hub has its kit, an outbox, in which packets may wait
+/// that others left there, and a seat that is split off this one.
 pub fn prepare_threads<'s, 'c, H, N: Opened>(
     sockets: &'s [BoundSocket],
     shared: &'s Shared<'s, 'c, H, N>,

@@ -5,8 +5,8 @@ ghost use Rattle.roam_wire.specs.Reading.{attribute_at, attributes_of};
 
 use crate::attributes::Attr;
 
-/// The attribute at the front, and the octets behind it; none where its Length is below 2 or passes
-/// the end.
+/// Splits octets into the attribute at the front and the octets behind it. Returns `None` where its Length is below 2
+/// or passes the end.
 pub fn split_attribute(octets: &[u8]) -> Option<(Attr<'_>, &[u8])>
     ensures { option_map (λ x. (record { kind = x.0.kind; value = x.0.value.now }, x.1.now)) result
         ≡ attribute_at octets.now }

@@ -35,8 +35,8 @@ impl<'a> Model for Attrs<'a> {
 }
 
 impl<'a> Attrs<'a> {
-    /// The attributes that these octets are, as the sub-attributes of a Vendor-Specific (RFC 2865, section
-    /// 5.26); none where a Length is missing, below 2 or past the end. One pass.
+    /// Reads octets as attributes, such as the sub-attributes of a Vendor-Specific (RFC 2865, section 5.26). Returns
+    /// `None` where a Length is missing, below 2 or past the end. Takes one pass.
     pub fn read(octets: &'a [u8]) -> Option<Attrs<'a>>
         ensures { result ≡ attributes_of octets.entry.now }
     {
@@ -47,7 +47,7 @@ impl<'a> Attrs<'a> {
         }
     }
 
-    /// The attributes that these octets are.
+    /// Returns the attributes that these octets are.
     pub(crate) fn over(rest: &'a [u8]) -> Attrs<'a>
         requires { IsSome (attributes_of rest.now) }
         ensures { Some result ≡ attributes_of rest.entry.now }

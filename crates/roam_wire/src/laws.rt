@@ -20,21 +20,21 @@ pub fn packet_octets()
     ensures octets { PacketTextIsOctets }
 {}
 
-/// The numbers of the codes.
+/// States the numbers of the codes.
 pub fn numbers_of_codes()
     ensures access { AccessCodes }
     ensures accounting { AccountingCodes }
     ensures reverse { ReverseCodes }
 {}
 
-/// The numbers of the attribute types.
+/// States the numbers of the attribute types.
 pub fn numbers_of_attribute_types()
     ensures access { AccessTypes }
     ensures accounting { AccountingTypes }
     ensures others { OtherTypes }
 {}
 
-/// The size of the largest packet.
+/// States the size of the largest packet.
 pub fn largest_packet()
     ensures { LargestPacket }
 {}

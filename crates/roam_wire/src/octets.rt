@@ -26,14 +26,14 @@ impl<A: Allocator> Model for Octets<A> {
 }
 
 impl<A: Allocator> Octets<A> {
-    /// The octets of a `Vec`. Takes no memory.
+    /// Makes octets of a `Vec`. Takes no memory.
     pub fn from_vec(octets: Vec<u8, A>) -> Octets<A>
         ensures { result ≡ octets.items }
     {
         Octets { octets }
     }
 
-    /// For tests. The `Vec` again. Takes no memory.
+    /// For tests. Returns the `Vec` again. Takes no memory.
     pub fn into_vec(self) -> Vec<u8, A>
         ensures { result.items ≡ self }
     {
@@ -41,7 +41,7 @@ impl<A: Allocator> Octets<A> {
         octets
     }
 
-    /// The octets where they lie.
+    /// Returns the octets where they lie.
     pub fn as_slice(&self) -> &[u8]
         ensures { result.now ≡ self.now }
     {
@@ -55,7 +55,7 @@ impl<A: Allocator> Octets<A> {
         self.octets.len()
     }
 
-    /// A copy of these octets.
+    /// Makes a copy of these octets.
     pub fn copy_of(alloc: A, octets: &[u8]) -> Result<Octets<A>, NoMemory>
         ensures { IfOk result (λ o. o ≡ octets.now) }
     {

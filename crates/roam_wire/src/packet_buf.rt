@@ -31,7 +31,7 @@ impl<A: Allocator> Model for PacketBuf<A> {
     ghost invariant = { λ b. IsPacketText b.octets.items };
 }
 
-/// The octets of a header whose Length is 20.
+/// Makes the octets of a header whose Length is 20.
 fn header_octets<A: Allocator>(
     alloc: A,
     code: u8,
@@ -74,7 +74,7 @@ fn write_length<A: Allocator>(octets: &mut Vec<u8, A>, size: usize)
 }
 
 impl<A: Allocator> PacketBuf<A> {
-    /// A packet without attributes.
+    /// Makes a packet without attributes.
     pub fn start(
         alloc: A,
         code: u8,
@@ -109,7 +109,7 @@ impl<A: Allocator> PacketBuf<A> {
         Ok(())
     }
 
-    /// The packet's octets, 20 to 4096 in number. Takes no memory.
+    /// Returns the packet's octets, 20 to 4096 in number. Takes no memory.
     pub fn finish(self) -> Vec<u8, A>
         ensures text { result.items ≡ packet_text self }
         ensures packet { IsPacket self }

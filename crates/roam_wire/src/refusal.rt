@@ -97,7 +97,7 @@ pub enum Refusal {
 impl Refusal {
     ghost use Rattle.roam_wire.specs.Refusal.{number_of};
 
-    /// The number of the refusal, from 1 to 29, under which it is logged.
+    /// Returns the number of the refusal, from 1 to 29, under which it is logged.
     pub fn number(self) -> u8
         ensures { result ≡ number_of self }
     {

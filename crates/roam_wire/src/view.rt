@@ -31,7 +31,7 @@ impl<'a> Model for View<'a> {
     ghost invariant = { λ v. IsPacketText v.octets.now };
 }
 
-/// The Length field of a datagram.
+/// Returns the Length field of a datagram.
 fn length_at(datagram: &[u8]) -> usize
     requires { 20 ≤ length datagram.now }
     ensures { result ≡ length_field datagram.now }
@@ -39,7 +39,7 @@ fn length_at(datagram: &[u8]) -> usize
     256 * usize::from(datagram[2]) + usize::from(datagram[3])
 }
 
-/// The first octets of a datagram.
+/// Returns the first `size` octets of a datagram.
 fn front_of(datagram: &[u8], size: usize) -> &[u8]
     requires { size ≤ length datagram.now }
     ensures { result.now ≡ take size datagram.now }
@@ -47,7 +47,7 @@ fn front_of(datagram: &[u8], size: usize) -> &[u8]
     datagram.split_at(size).0
 }
 
-/// The octets behind a header.
+/// Returns the octets behind a header.
 fn behind_header(octets: &[u8]) -> &[u8]
     requires { 20 ≤ length octets.now }
     ensures { result.now ≡ drop 20 octets.now }
@@ -55,7 +55,7 @@ fn behind_header(octets: &[u8]) -> &[u8]
     octets.split_at(20).1
 }
 
-/// The octets of an Authenticator field.
+/// Returns the octets of an Authenticator field.
 fn authenticator_of(octets: &[u8]) -> [u8; 16]
     requires { 20 ≤ length octets.now }
     ensures { result ≡ take 16 (drop 4 octets.now) }
@@ -98,8 +98,8 @@ impl<'a> View<'a> {
         Ok(View { octets })
     }
 
-    /// The packet of octets that are known to be a packet's, as those that were built or kept. Nothing is
-    /// read.
+    /// Makes the packet of octets that are known to be a packet's, such as those that were built or kept. Reads
+    /// nothing.
     pub fn of_packet(octets: &'a [u8]) -> View<'a>
         requires { IsPacketText octets.now }
         ensures { result ≡ packet_of octets.entry.now }
@@ -107,28 +107,28 @@ impl<'a> View<'a> {
         View { octets }
     }
 
-    /// The packet's Code.
+    /// Returns the packet's Code.
     pub fn code(&self) -> u8
         ensures { result ≡ self.now.code }
     {
         self.octets[0]
     }
 
-    /// The packet's Identifier.
+    /// Returns the packet's Identifier.
     pub fn id(&self) -> u8
         ensures { result ≡ self.now.id }
     {
         self.octets[1]
     }
 
-    /// The packet's Authenticator field.
+    /// Returns the packet's Authenticator field.
     pub fn authenticator(&self) -> [u8; 16]
         ensures { result ≡ self.now.authenticator }
     {
         authenticator_of(self.octets)
     }
 
-    /// The packet's attributes, in their order. They are few, since each takes two octets at least.
+    /// Returns the packet's attributes, in their order. They are few, since each takes at least two octets.
     pub fn attributes(&self) -> Attrs<'a>
         ensures all { result ≡ self.now.attributes }
         ensures few { length result ≤ 2038 }
@@ -137,7 +137,7 @@ impl<'a> View<'a> {
         Attrs::over(behind_header(self.octets))
     }
 
-    /// The packet's octets: those of the datagram up to Length, 20 to 4096 in number.
+    /// Returns the packet's octets: those of the datagram up to Length, 20 to 4096 in number.
     pub fn octets(&self) -> &'a [u8]
         ensures text { result.now ≡ packet_text self.now }
         ensures packet { IsPacket self.now }
@@ -145,7 +145,7 @@ impl<'a> View<'a> {
         self.octets
     }
 
-    /// The Value of the packet's first attribute of a Type, if there is one. One pass.
+    /// Returns the Value of the packet's first attribute of a Type, if there is one. Takes one pass.
     pub fn first(&self, kind: u8) -> Option<&'a [u8]>
         ensures { option_map (λ value. value.now) result ≡ first_value kind self.now.attributes }
     {

@@ -14,7 +14,7 @@ use roam_telling::{local_reject_of, local_response_of, nak_of};
 use std::alloc::Global;
 use std::sync::Wait;
 
-/// The octets of the packet that is sent, where one is.
+/// Returns the octets of the packet that is sent, where one is.
 fn sent_by(answered: &Answered<Global>) -> &[u8] {
     match answered.answer.outs.as_parts() {
         (Some(out), _) | (None, [out, ..]) => out.bytes.as_slice(),

@@ -3,12 +3,14 @@
 ghost use Rattle.roam_workers.specs.Agreeing.{AnswersAgree, TicksAgree};
 ghost use Rattle.roam_workers.specs.Work.{WorkIsCounted, WorkIsSent};
 
-/// Each of a thread's own counts is the sum of the increments of all that it did, above what it was at the start.
+/// States that each of a thread's own counts is the sum of the increments of all that it did, above what it was at
+/// the start.
 pub fn work_is_counted()
     ensures { WorkIsCounted }
 {}
 
-/// The packets that a thread puts into its outbox are those of the answers that it was given, in order, each once.
+/// States that the packets that a thread puts into its outbox are those of the answers that it was given, in order,
+/// each once.
 pub fn work_is_sent()
     ensures { WorkIsSent }
 {}

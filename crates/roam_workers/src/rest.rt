@@ -13,7 +13,7 @@ pub struct TimerRest<'s> {
 }
 
 impl<'s> TimerRest<'s> {
-    /// A timer that doesn't rest, and is woken through this.
+    /// Makes a timer that doesn't rest, and is woken through this.
     pub fn new(waker: Option<&'s Waker>) -> TimerRest<'s> {
         TimerRest {
             is_resting: AtomicBool::new(false),
@@ -21,12 +21,12 @@ impl<'s> TimerRest<'s> {
         }
     }
 
-    /// The timer rests: whoever gives a job to a shard from now on wakes it.
+    /// Notes that the timer rests: each thread that gives a job to a shard from now on wakes it.
     pub fn begin(&self) {
         self.is_resting.store(true, Ordering::SeqCst);
     }
 
-    /// The timer rests no more.
+    /// Notes that the timer rests no more.
     pub fn end(&self) {
         self.is_resting.store(false, Ordering::SeqCst);
     }

@@ -49,7 +49,7 @@ fn moved(old: &[bool; SERVER_LINKS], before: &Realm, after: &Realm) -> [bool; SE
 }
 
 impl Rests {
-    /// None keeps silent.
+    /// Makes the list where no server is silent.
     pub fn new(alloc: Global, config: &Config) -> Result<Rests, AllocError> {
         let mut silent = Vec::with_capacity(alloc, config.realms.len())?;
         for _ in 0..config.realms.len() {

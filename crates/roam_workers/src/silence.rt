@@ -17,8 +17,8 @@ use std::sync::Wait;
 /// From one look to the next, in milliseconds.
 const BETWEEN_LOOKS: u64 = 1000;
 
-/// The first link to the end of a place, of so many servers: their `auth`, and then their `acct`. All links to it rest
-/// together.
+/// Returns the first link to the end of a place, of so many servers: their `auth`, and then their `acct`. All links
+/// to it are marked dead together.
 fn link_at(servers: usize, place: usize) -> Option<Link> {
     if place < servers {
         return Some(Link::Auth(u8::try_from(place).ok()?, 0));

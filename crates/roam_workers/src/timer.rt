@@ -133,7 +133,7 @@ fn tell_all<R: Wait, H: HubCalls<N>, N: Opened>(rt: &R, timer: &mut Timer<'_, '_
     timer.context.wake_logger(0);
 }
 
-/// One round of ticks: why the timer ends with it, if it does.
+/// Does one round of ticks. Returns why the timer ends with it, if it does.
 fn round<R: Wait + Clock, H: HubCalls<N>, N: Opened>(
     rt: &R,
     timer: &mut Timer<'_, '_, H, N>,

@@ -220,7 +220,7 @@ fn receive_all<R: Wait + Clock, H: HubCalls<N>, N: Opened>(
     None
 }
 
-/// One round over the sockets: why the worker ends with it, if it does.
+/// Does one round over the sockets. Returns why the worker ends with it, if it does.
 fn round<R: Wait + Clock, H: HubCalls<N>, N: Opened>(
     rt: &R,
     alloc: Global,

@@ -20,7 +20,7 @@ impl<'c, A: Allocator + Copy, N: Opened> LockedTrace<'c, A, N> {
         self.traced.is_due(now)
     }
 
-    /// The moment of a tick where something is due.
+    /// Returns the moment of a tick where something is due.
     fn due_moment(&self, now: u64) -> Option<u64>
         ensures none { IfNone result (NothingDue now self.now.trace.states) }
         ensures due { IfSome result (λ _. NothingDue now self.now.trace.states → ⊥) }
@@ -32,8 +32,8 @@ impl<'c, A: Allocator + Copy, N: Opened> LockedTrace<'c, A, N> {
         Some(moment_of_tick(self.traced.shard(), now))
     }
 
-    /// A tick of this shard where something is due in it, at a moment that parts what is due. None where nothing is:
-    /// nothing is stored then.
+    /// Does a tick of this shard where something is due in it, at a moment that parts what is due. Returns `None`
+    /// where nothing is: nothing is stored then.
     pub(crate) fn tick_if_due<R: Wait, G>(
         &mut self,
         call: Call<'_, R, G>,

@@ -4,7 +4,8 @@ use Rattle.roam_wire.specs.declared.refusal.Refusal.{Refusal}
 use Rattle.roam_conf.specs.declared.place.Link.{Link}
 use Rattle.roam_pending.specs.PlainEntry.{PlainEntry, PlainRequest}
 use Rattle.roam_pending.specs.EntryList.{besides, find_client, find_ticket, first_done}
-use Rattle.roam_realm.specs.RealmConfig.{RealmConfig, IsLink, links_from, peer_ways}
+use Rattle.roam_realm.specs.RealmConfig.{RealmConfig, IsLink, peer_ways}
+use Rattle.roam_realm.specs.ServerOrder.{links_from}
 use Rattle.std.specs.List.{find}
 use Rattle.std.specs.Option.{option_and_then, option_or}
 use Rattle.roam_ids.specs.LaneState.{LaneState}
@@ -88,7 +89,7 @@ admits c now s q plan =
 
 -- the links of targets, in the order of their use
 abbrev pub links_of : RealmConfig → Targets → List Link
-links_of c (kind.HomeServers service) = links_from c service 0
+links_of c (kind.HomeServers servers) = links_from c servers
 links_of c (kind.AccessServer peer) = peer_ways c peer
 
 -- the one of some links that is this one, where it is open; else the first that is open to the same end
@@ -120,7 +121,7 @@ way_link c now rests lanes freed q entries links =
 
 -- the access server among targets is a configured peer
 abbrev pub AreConfigured : RealmConfig → Targets → Type 0
-AreConfigured c (kind.HomeServers service) = Unit {0}
+AreConfigured c (kind.HomeServers servers) = Unit {0}
 AreConfigured c (kind.AccessServer peer) = peer < length c.peers
 
 -- a request is new that has these targets, while an entry counts as gone: no entry has its key then

@@ -42,7 +42,7 @@ pub(crate) struct Supplies<A: Allocator> {
 }
 
 impl<A: Allocator + Copy> Supplies<A> {
-    /// All the memory that a new request may want toward a link: the buffers have the size of the packet that
+    /// Takes all the memory that a new request may want toward a link: the buffers have the size of the packet that
     /// is forwarded for it.
     fn new(
         alloc: A,
@@ -143,7 +143,8 @@ impl<A: Allocator + Copy, E: Entries<A>> RealmBroker<'_, '_, '_, '_, A, E> {
         self.numbers.make_lane(self.settings, link)
     }
 
-    /// A link is chosen for a new request: its rest is put off, where no conversation bound the request there.
+    /// Notes that a link is chosen for a new request: the moment until which it is marked dead is put off, where no
+    /// conversation bound the request there.
     fn choose(&mut self, now: u64, link: Link, bound: bool)
         requires realm { IsRealm E.Entries self.old }
         requires moment { now ≤ 2 ^ 62 }

@@ -19,13 +19,13 @@ use crate::rules::targets::Targets;
 use roam_conf::Link;
 use roam_exchange::RequestRef;
 use roam_pending::{Entries, Requester};
-use roam_realm::{RealmSettings, ServersFrom, Wanted};
+use roam_realm::{RealmSettings, Wanted};
 use roam_wire::View;
 use roam_wire::attribute_type::STATE;
 use roam_wire::code::ACCESS_REQUEST;
 use std::alloc::Allocator;
 
-/// The State with which a packet goes on with a conversation: the first one of an Access-Request.
+/// Returns the State with which a packet goes on with a conversation: the first one of an Access-Request.
 pub(crate) fn state_in<'a>(packet: &View<'a>) -> Option<&'a [u8]>
     ensures { option_map (λ state. state.now) result ≡ state_in packet.now }
 {
@@ -49,7 +49,7 @@ fn asked_state<'a>(settings: &RealmSettings<'_>, request: RequestRef<'a>) -> Opt
 }
 
 impl<A: Allocator + Copy, E: Entries<A>> RealmBroker<'_, '_, '_, '_, A, E> {
-    /// The link that keeps the last round of this State, of the same sender.
+    /// Finds the link that keeps the last round of this State, of the same sender.
     fn round_link(&self, requester: Requester, state: &[u8]) -> Option<Link>
         requires realm { IsRealm E.Entries self.now }
         ensures round { result ≡ round_link requester state.now (entries E.Entries self.now) }
@@ -63,7 +63,7 @@ impl<A: Allocator + Copy, E: Entries<A>> RealmBroker<'_, '_, '_, '_, A, E> {
         }
     }
 
-    /// The link that goes on with a request's conversation, if it has one.
+    /// Finds the link that goes on with a request's conversation, if it has one.
     fn bound_link(&self, request: RequestRef<'_>) -> Option<Link>
         requires realm { IsRealm E.Entries self.now }
         requires request { IsRequest self.now.settings.now (shown_request request) }
@@ -76,7 +76,7 @@ impl<A: Allocator + Copy, E: Entries<A>> RealmBroker<'_, '_, '_, '_, A, E> {
         }
     }
 
-    /// The first of the links to some targets that has a free Identifier, or is `freed`, and is wanted.
+    /// Finds the first of the links to some targets that has a free Identifier, or is `freed`, and is wanted.
     pub(crate) fn first_sought(
         &self,
         targets: Targets,
@@ -90,8 +90,7 @@ impl<A: Allocator + Copy, E: Entries<A>> RealmBroker<'_, '_, '_, '_, A, E> {
         ensures link { IfSome result (λ l. IsLink self.now.settings.now l) }
     {
         match targets {
-            Targets::HomeServers(service) => {
-                let servers = ServersFrom { service, first: 0 };
+            Targets::HomeServers(servers) => {
                 self.numbers
                     .first_sought(self.settings, servers, wanted, freed)
             }
@@ -102,8 +101,8 @@ impl<A: Allocator + Copy, E: Entries<A>> RealmBroker<'_, '_, '_, '_, A, E> {
         }
     }
 
-    /// The one of the links to some targets that is this one, where it has a free Identifier, or is `freed`; else the
-    /// first of those to the same end that does, or is.
+    /// Finds the link `bound` among the links to some targets, where it has a free Identifier, or is `freed`; else
+    /// the first of those to the same end that does, or is.
     fn way_of_end(&self, targets: Targets, bound: Link, freed: Option<Link>) -> Option<Link>
         requires realm { IsRealm E.Entries self.now }
         requires targets { AreConfigured self.now.settings.now targets }
@@ -117,8 +116,8 @@ impl<A: Allocator + Copy, E: Entries<A>> RealmBroker<'_, '_, '_, '_, A, E> {
         }
     }
 
-    /// The one of a request's links that goes on with its conversation, or else one to the same end, where it has a
-    /// free Identifier, or is `freed`, whether it stands back or not.
+    /// Finds the one of a request's links that goes on with its conversation, or else one to the same end, where it
+    /// has a free Identifier, or is `freed`, whether it is marked dead or not.
     fn bound_way(
         &self,
         request: RequestRef<'_>,
@@ -139,8 +138,8 @@ impl<A: Allocator + Copy, E: Entries<A>> RealmBroker<'_, '_, '_, '_, A, E> {
         }
     }
 
-    /// The first that has a free Identifier, or is `freed`, and no moment until which it rests, where a request goes on
-    /// with a conversation.
+    /// Finds the first link that has a free Identifier, or is `freed`, and no moment until which it is marked dead,
+    /// where a request goes on with a conversation.
     fn untried_way(
         &self,
         request: RequestRef<'_>,
@@ -161,9 +160,9 @@ impl<A: Allocator + Copy, E: Entries<A>> RealmBroker<'_, '_, '_, '_, A, E> {
         }
     }
 
-    /// The one of a request's targets that is chosen at a moment, where the Identifiers of `freed` count as free: the
-    /// one that goes on with its conversation; else, where it has one, the first that has no moment until which it
-    /// rests; else the usual one.
+    /// Chooses the one of a request's targets at a moment, where the Identifiers of `freed` count as free: the one
+    /// that goes on with its conversation; else, where it has one, the first that has no moment until which it is
+    /// marked dead; else the usual one.
     pub(crate) fn chosen_way(
         &self,
         now: u64,

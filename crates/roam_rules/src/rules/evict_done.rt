@@ -58,8 +58,8 @@ impl<A: Allocator + Copy, E: Entries<A>> RealmBroker<'_, '_, '_, '_, A, E> {
         note_left(left, left_with(self.settings, gone));
     }
 
-    /// A tick at a moment in milliseconds at which only done entries are due: they go, and nothing is sent. Takes
-    /// memory only to note conversations that are left.
+    /// Does a tick at a moment in milliseconds at which only done entries are due: they go, and nothing is sent.
+    /// Takes memory only to note conversations that are left.
     pub fn let_go(&mut self, now: u64, left: &mut Vec<LeftConversation<A>, A>)
         requires realm { IsRealm E.Entries self.old }
         requires moment { now ≤ 2 ^ 62 }

@@ -24,7 +24,7 @@ use roam_realm::Wanted;
 use roam_wire::Refusal;
 use std::alloc::Allocator;
 
-/// The link where an Identifier becomes free once an entry is gone.
+/// Returns the link where an Identifier becomes free once an entry is gone.
 fn freed_link(replaced: Option<Replaced>) -> Option<Link>
     ensures { result ≡ freed_link replaced }
 {
@@ -32,7 +32,7 @@ fn freed_link(replaced: Option<Replaced>) -> Option<Link>
     Some(link)
 }
 
-/// The ticket of the entry that counts as gone.
+/// Returns the ticket of the entry that counts as gone.
 pub(crate) fn replaced_ticket(replaced: Option<Replaced>) -> Option<u64>
     ensures { result ≡ replaced_ticket replaced }
 {
@@ -55,8 +55,8 @@ impl<A: Allocator + Copy, E: Entries<A>> RealmBroker<'_, '_, '_, '_, A, E> {
         }
     }
 
-    /// A new request for which a link has a free Identifier: it is admitted where there is a place,
-    /// or where a done entry makes way.
+    /// Plans a new request for which a link has a free Identifier: it is admitted where there is a place, or where a
+    /// done entry makes way.
     fn plan_at(&self, replaced: Option<Replaced>, choice: LinkChoice) -> Result<AdmitPlan, Refusal>
         requires { CountsAsReplaced replaced (entries E.Entries self.now) }
         ensures replaced { IfOk result (λ plan. plan.replaced ≡ replaced) }
@@ -97,8 +97,7 @@ impl<A: Allocator + Copy, E: Entries<A>> RealmBroker<'_, '_, '_, '_, A, E> {
         }
     }
 
-    /// The one of a request's targets that is chosen at a moment, where the Identifiers of `freed` count
-    /// as free.
+    /// Chooses the one of a request's targets at a moment, where the Identifiers of `freed` count as free.
     pub(crate) fn chosen_target(
         &self,
         now: u64,
@@ -118,7 +117,7 @@ impl<A: Allocator + Copy, E: Entries<A>> RealmBroker<'_, '_, '_, '_, A, E> {
         }
     }
 
-    /// A new request with these targets: there must be a ticket for it, less than its name's share and than its
+    /// Plans a new request with these targets: there must be a ticket for it, less than its name's share and than its
     /// peer's waiting, and a target with a free Identifier. The entry of its key, if there is one, counts as gone.
     pub(crate) fn plan_admit(
         &self,

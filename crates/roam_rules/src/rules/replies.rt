@@ -48,7 +48,7 @@ pub(crate) struct ReplyPlan<A: Allocator> {
     pub settled: Option<Settled<A>>,
 }
 
-/// A reply that is refused before an entry is looked at. Takes no memory.
+/// Plans to refuse a reply before an entry is looked at. Takes no memory.
 fn refused_reply<A: Allocator>(alloc: A, why: Refusal) -> ReplyPlan<A>
     ensures { (c : RealmConfig) (s : RealmState) → IsReplyPlan c s result (refuses why) (happenings.refused why) }
 {
@@ -59,7 +59,7 @@ fn refused_reply<A: Allocator>(alloc: A, why: Refusal) -> ReplyPlan<A>
     }
 }
 
-/// The link that gave a sign of life, if it did.
+/// Returns the link that gave a sign of life, if it did.
 fn heard_from(heard: bool, link: Link) -> Option<Link>
     ensures { result ≡ (if heard then Some link else None) }
 {
@@ -67,7 +67,7 @@ fn heard_from(heard: bool, link: Link) -> Option<Link>
 }
 
 impl<A: Allocator + Copy, E: Entries<A>> RealmBroker<'_, '_, '_, '_, A, E> {
-    /// The entry that waits on a link with an Identifier: the link's lane has its ticket.
+    /// Finds the entry that waits on a link with an Identifier: the link's lane has its ticket.
     pub(crate) fn waiting_at(&self, link: Link, id: u8) -> Option<&Entry<A>>
         requires realm { IsRealm E.Entries self.now }
         ensures found { seen result ≡ find_link link id (entries E.Entries self.now) }
@@ -185,7 +185,7 @@ impl<A: Allocator + Copy, E: Entries<A>> RealmBroker<'_, '_, '_, '_, A, E> {
         Ok(Some(change))
     }
 
-    /// A link gave a sign of life, if one did.
+    /// Notes that a link gave a sign of life, if one did.
     fn hear(&mut self, heard: Option<Link>)
         requires realm { IsRealm E.Entries self.old }
         requires heard { IsHeard self.old.settings.now heard }
@@ -198,7 +198,7 @@ impl<A: Allocator + Copy, E: Entries<A>> RealmBroker<'_, '_, '_, '_, A, E> {
         }
     }
 
-    /// The entry that is to be done is done, by which no session changes: its Identifier is then free, and its link
+    /// Settles the entry that is to be done, by which no session changes: its Identifier is then free, and its link
     /// gave a sign of life. `NoMemory` comes where a growth was refused; the realm is then as it was.
     fn settle(&mut self, settled: Settled<A>) -> Result<(), NoMemory>
         requires realm { IsRealm E.Entries self.old }
@@ -223,7 +223,7 @@ impl<A: Allocator + Copy, E: Entries<A>> RealmBroker<'_, '_, '_, '_, A, E> {
         Ok(())
     }
 
-    /// The entry that is to be done is done, by which a peer's sessions change. `NoMemory` comes where a growth was
+    /// Settles the entry that is to be done, by which a peer's sessions change. `NoMemory` comes where a growth was
     /// refused; the realm is then as it was.
     fn settle_counted(&mut self, mut settled: Settled<A>) -> Result<(), NoMemory>
         requires realm { IsRealm E.Entries self.old }
@@ -268,13 +268,13 @@ impl<A: Allocator + Copy, E: Entries<A>> RealmBroker<'_, '_, '_, '_, A, E> {
         }
     }
 
-    /// A reply that came from a link: it is returned, and held until `now + hold`, where the request waits on that link
-    /// with the reply's Identifier, and the reply is taken. Where the session isn't kept, the ledger stays as it is,
-    /// and wants no memory.
+    /// Takes a reply that came from a link: it is returned, and held until `now + hold`, where the request waits on
+    /// that link with the reply's Identifier, and the reply is taken. Where the session isn't kept, the session table
+    /// stays as it is, and wants no memory.
     ///
     /// Refused in this order: `Moment`, `NoEntry`, `WrongReply`, `BadReply`, `BadReplyMessageAuthenticator`,
-    /// `ReplyTooLong`. `NoMemory` comes where a growth was refused; the realm is then as it was. A refused reply wants
-    /// no memory. The octets of its request are kept where lines tell of such exchanges.
+    /// `ReplyTooLong`. `NoMemory` comes where a growth was refused; the realm is then as it was. A refused reply
+    /// wants no memory. The octets of its request are kept where lines tell of such exchanges.
     pub fn on_reply(
         &mut self,
         now: u64,

@@ -29,7 +29,7 @@ use roam_exchange::{
     Happening, RequestRef, Turned, code_in, nothing, one_packet, packet_to_requester, refused_turn,
 };
 use roam_pending::{Entries, Entry, Standing};
-use roam_realm::{RealmSettings, Service};
+use roam_realm::RealmSettings;
 use roam_reply::nak;
 use roam_wire::{NoMemory, Octets, Refusal, View};
 use std::alloc::Allocator;
@@ -79,7 +79,7 @@ fn held_reply<A: Allocator + Copy>(
     }
 }
 
-/// The NAK that answers a reverse request which isn't forwarded (RFC 5176, sections 2.3 and 3.5).
+/// Makes the NAK that answers a Disconnect- or CoA-Request which isn't forwarded (RFC 5176, sections 2.3 and 3.5).
 fn refused_by_nak<A: Allocator + Copy>(
     alloc: A,
     settings: &RealmSettings<'_>,
@@ -105,7 +105,7 @@ fn refused_by_nak<A: Allocator + Copy>(
 }
 
 impl<A: Allocator + Copy, E: Entries<A>> RealmBroker<'_, '_, '_, '_, A, E> {
-    /// A new request with these targets is refused or admitted, while an entry counts as gone.
+    /// Plans to refuse or to admit a new request with these targets, while an entry counts as gone.
     fn plan_new(
         &self,
         now: u64,
@@ -130,7 +130,7 @@ impl<A: Allocator + Copy, E: Entries<A>> RealmBroker<'_, '_, '_, '_, A, E> {
         }
     }
 
-    /// The targets of a request, or why it is a reverse request that can't be forwarded.
+    /// Returns the targets of a request, or the Error-Cause of a Disconnect- or CoA-Request that can't be forwarded.
     fn targets_of(&self, request: RequestRef<'_>) -> Result<Targets, u32>
         requires { IsPacketText request.octets.now }
         ensures cause { result_err result ≡ reverse_cause self.now.settings.now
@@ -146,10 +146,10 @@ impl<A: Allocator + Copy, E: Entries<A>> RealmBroker<'_, '_, '_, '_, A, E> {
             let peer = self.settings.route_of(request.named, &view, sessions)?;
             return Ok(Targets::AccessServer(peer));
         }
-        Ok(Targets::HomeServers(Service::of_code(view.code())))
+        Ok(Targets::HomeServers(self.settings.servers_for(&view)))
     }
 
-    /// A request that is no duplicate: a reverse request that can't be forwarded is answered by a
+    /// Plans a request that is no duplicate: a Disconnect- or CoA-Request that can't be forwarded is answered by a
     /// NAK, and any other is new.
     fn plan_first_seen(
         &self,
@@ -186,8 +186,7 @@ impl<A: Allocator + Copy, E: Entries<A>> RealmBroker<'_, '_, '_, '_, A, E> {
         }
     }
 
-    /// A request in time: a duplicate where the entry of its key has its octets too, else a new
-    /// one.
+    /// Plans a request in time: it is a duplicate where the entry of its key has its octets too, else a new one.
     fn plan_of_key(&self, now: u64, request: RequestRef<'_>) -> Result<RequestPlan<A>, NoMemory>
         requires realm { IsRealm E.Entries self.now }
         requires request { IsRequest self.now.settings.now (shown_request request) }
@@ -222,12 +221,12 @@ impl<A: Allocator + Copy, E: Entries<A>> RealmBroker<'_, '_, '_, '_, A, E> {
         self.plan_first_seen(now, request, replaced)
     }
 
-    /// A request of the realm: a duplicate, a reverse request that is answered by a NAK, or a new one
-    /// that is forwarded.
+    /// Takes a request of the realm: a duplicate, a Disconnect- or CoA-Request that is answered by a NAK, or a new
+    /// one that is forwarded.
     ///
-    /// Refused in this order: `Moment`, `Exhausted`, `ShareTaken`, `NoIdentifier`, `Busy`. `NoMemory` comes where
-    /// a growth was refused; the realm is then as it was. A refused request and a duplicate of one
-    /// that waits want no memory.
+    /// Refused in this order: `Moment`, `Exhausted`, `ShareTaken`, `NoIdentifier`, `Busy`. `NoMemory` comes where a
+    /// growth was refused; the realm is then as it was. A refused request and a duplicate of one that waits want no
+    /// memory.
     pub fn on_request(&mut self, now: u64, request: RequestRef<'_>) -> Result<Turned<A>, NoMemory>
         requires realm { IsRealm E.Entries self.old }
         requires request { IsRequest self.old.settings.now (shown_request request) }

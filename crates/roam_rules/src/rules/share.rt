@@ -29,7 +29,7 @@ use roam_wire::View;
 use roam_wire::attribute_type::USER_NAME;
 use std::alloc::Allocator;
 
-/// The name part of a request.
+/// Returns the name part of a request.
 fn name_part(octets: &[u8]) -> Option<&[u8]>
     requires { IsPacketText octets.now }
     ensures { option_map (λ part. part.now) result ≡ name_part octets.entry.now }
@@ -89,7 +89,7 @@ fn is_beside(replaced: Option<u64>, ticket: u64) -> bool
     }
 }
 
-/// One, where that is so.
+/// Returns one where that is so, else zero.
 fn one_if(is_so: bool) -> usize
     ensures value { result ≡ if is_so then 1 else 0 }
     ensures small { result ≤ 1 }

@@ -23,7 +23,7 @@ use roam_wire::Refusal;
 use std::alloc::Allocator;
 
 impl<A: Allocator + Copy, E: Entries<A>> RealmBroker<'_, '_, '_, '_, A, E> {
-    /// An entry is done, and its reply is held, or it goes.
+    /// Holds the reply of an entry, which is done then, or takes the entry out where no reply is held.
     fn hold(&mut self, ticket: u64, held: Option<Done<A>>)
         requires no_link { HoldsNoLink held }
         ensures entries { IfSome (find_ticket ticket (entries E.Entries self.old))
@@ -128,7 +128,7 @@ impl<A: Allocator + Copy, E: Entries<A>> RealmBroker<'_, '_, '_, '_, A, E> {
         self.apply_action(now, due.ticket, action, outs);
     }
 
-    /// A tick, in the room that was made for this state and this moment. Takes no memory.
+    /// Does a tick in the room that was made for this state and this moment. Takes no memory.
     pub fn on_tick(&mut self, now: u64, room: Room<A>) -> Turned<A>
         requires realm { IsRealm E.Entries self.old }
         requires room { IsRoomFor now (entries E.Entries self.old) room }

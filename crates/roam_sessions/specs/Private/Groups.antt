@@ -56,8 +56,8 @@ pub record Goes (f g : ℕ → Option (List ℕ)) (t : ℕ) (row : Option (List 
   pub was : f t ≡ row
   pub puts : PutsAt f g t None
 
--- a group's ends are these now, and every other one's as they were
-abbrev pub PutsRow : (List ℕ → Option Ends) → (List ℕ → Option Ends) → List ℕ → Option Ends → Type 0
+-- a row has this now, and every other one what it had
+abbrev pub PutsRow : {X : Type 0} → (List ℕ → Option X) → (List ℕ → Option X) → List ℕ → Option X → Type 0
 PutsRow I J row w = (other : List ℕ) → J other ≡ (if bytes_eq row other then w else I other)
 
 -- whether a number is the one that is given
@@ -100,9 +100,12 @@ ends_left beside ends = ends_between beside.older beside.newer ends
 abbrev pub oldest_of : PlainGroups → List ℕ → Option ℕ
 oldest_of groups row = option_map (λ (e : Ends). e.oldest) (groups.ends row)
 
--- the next newer number of a number's group
+-- the next newer number of a number's group, by the neighbours of each
+abbrev pub newer_at : (ℕ → Option Beside) → ℕ → Option ℕ
+newer_at beside t = option_and_then (λ (b : Beside). b.newer) (beside t)
+
 abbrev pub newer_of : PlainGroups → ℕ → Option ℕ
-newer_of groups t = option_and_then (λ (b : Beside). b.newer) (groups.beside t)
+newer_of groups = newer_at groups.beside
 
 abbrev pub count_of : PlainGroups → List ℕ → ℕ
 count_of groups row = option_map_or (λ (e : Ends). e.count) (groups.ends row) 0

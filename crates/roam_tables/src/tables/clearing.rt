@@ -11,7 +11,7 @@ use roam_pending::Entries;
 use std::alloc::Allocator;
 
 impl<A: Allocator + Copy> Tables<A> {
-    /// The ticket of one of a realm's entries.
+    /// Finds the ticket of one of a realm's entries.
     fn any_ticket(&self, realm: u16) -> Option<u64>
         ensures none { IfNone result (entries_in self.now realm ≡ []) }
         ensures some { IfSome result (HasTicket (entries_in self.now realm)) }

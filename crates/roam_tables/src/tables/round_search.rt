@@ -13,7 +13,7 @@ use roam_pending::{Entries, Entry, is_round};
 use std::alloc::Allocator;
 
 impl<A: Allocator + Copy> Tables<A> {
-    /// The entry of a ticket, where it keeps a peer's round of this State.
+    /// Finds the entry of a ticket, where it keeps a peer's round of this State.
     fn round_of_ticket(&self, realm: u16, ticket: u64, peer: u16, state: &[u8]) -> Option<&Entry<A>>
         ensures { seen result ≡ option_and_then (if_round peer state.now)
             (find_ticket ticket (entries_in self.now realm)) }
@@ -26,7 +26,7 @@ impl<A: Allocator + Copy> Tables<A> {
         }
     }
 
-    /// Of the tickets of a run the last whose entry keeps a peer's round of this State: the run's last, unless
+    /// Finds the last entry of a run's tickets that keeps a peer's round of this State: the run's last, unless
     /// different rounds have one hash.
     pub(crate) fn last_of(
         &self,
@@ -49,7 +49,8 @@ impl<A: Allocator + Copy> Tables<A> {
         None
     }
 
-    /// For tests: at how many entries a look for a peer's round of a State looks, besides the index: those of its hash.
+    /// For tests. Counts the entries at which a look for a peer's round of a State looks, besides the index: those of
+    /// its hash.
     pub fn round_looks(&self, realm: u16, peer: u16, state: &[u8]) -> usize
         ensures { result ≡ 0 → last_round peer state.now (entries_in self.now realm) ≡ None }
     {

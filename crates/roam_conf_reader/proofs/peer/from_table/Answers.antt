@@ -2,11 +2,13 @@ use Rattle.toml.specs.Data.{get_member}
 use Rattle.toml.specs.View.{table_view}
 use Rattle.std.proofs.Common.{codes, map, string_bytes, arith}
 use Rattle.std.proofs.lemmas.List.{length-map}
+use Rattle.roam_address.specs.Prefixes.{shown_prefix}
 use Rattle.roam_wire.specs.RemovedAttributes.{is_removal_in_requests, is_removal_in_replies}
 use Rattle.roam_conf.specs.Letters.{is_nas_text}
 use Rattle.roam_conf_reader.specs.Values.{letters_of, removed, text}
 use Rattle.roam_conf_reader.specs.declared.values.Letters.TheVariants.{Any}
 use Rattle.roam_conf_reader.proofs.ListLemmas.{is_list_of, stated_nas_text, stated_removed}
+use Rattle.roam_conf_reader.proofs.PrefixLemmas.{prefixes_at}
 use Rattle.roam_conf_reader.proofs.RangeLemmas.{text_at, operator_value_at, optional_port_at, optional_text_at}
 use Rattle.roam_conf_reader.proofs.peer.from_table.Goals as goal
 
@@ -16,7 +18,8 @@ new-requires c =
     let members = table_view c.args.table.now in
     let request = c.in_ok-of_requests.field-0 in
     let reply = c.in_ok-of_replies.field-0 in
-    let stated = c.in-Some.ensures (map string_bytes c.in_ok-of_access_servers.field-0.items) request.items reply.items
+    let stated = c.in-Some.ensures (map shown_prefix c.in_ok-at.field-0.items)
+    (map string_bytes c.in_ok-of_access_servers.field-0.items) request.items reply.items c.in_ok-at.ensures.ok
     c.in_ok-of_access_servers.ensures.ok c.in_ok-of_requests.ensures.ok c.in_ok-of_replies.ensures.ok in
     (text_at 64 _ (codes "secret") members _ stated.secret).size.1
 
@@ -27,8 +30,9 @@ invariant_of-result c =
     let request = c.in_ok-of_requests.field-0 in
     let reply = c.in_ok-of_replies.field-0 in
     let identifiers = c.in_ok-of_access_servers.field-0 in
-    let stated = c.in-Some.ensures (map string_bytes identifiers.items) request.items reply.items
-    c.in_ok-of_access_servers.ensures.ok c.in_ok-of_requests.ensures.ok c.in_ok-of_replies.ensures.ok in
+    let prefixes = c.in_ok-at.field-0 in
+    let stated = c.in-Some.ensures (map shown_prefix prefixes.items) (map string_bytes identifiers.items) request.items
+    reply.items c.in_ok-at.ensures.ok c.in_ok-of_access_servers.ensures.ok c.in_ok-of_requests.ensures.ok c.in_ok-of_replies.ensures.ok in
     let of_identifiers = is_list_of (text 253 (letters_of Any)) is_nas_text stated_nas_text 1024
     (get_member (codes "nas_ids") members) (map string_bytes identifiers.items) c.in_ok-of_access_servers.ensures.ok in
     let of_requests = is_list_of (removed is_removal_in_requests) is_removal_in_requests
@@ -38,9 +42,14 @@ invariant_of-result c =
     (stated_removed is_removal_in_replies) 64 (get_member (codes "reply_without") members) reply.items
     c.in_ok-of_replies.ensures.ok in
     let name = text_at 64 _ (codes "name") members _ stated.name in
+    let few = prefixes_at (codes "ip") members (map shown_prefix prefixes.items) c.in_ok-at.ensures.ok in
     record {
       name_length = rw c.in_ok-from_str.ensures.ok name.size;
       name_letters = rw c.in_ok-from_str.ensures.ok name.letters_only;
+      ips_count = (
+        omega (arith, few.0, length-map prefixes.items shown_prefix),
+        omega (arith, few.1, length-map prefixes.items shown_prefix),
+      );
       secret_length = rw c.in_ok-new.ensures (text_at 64 _ (codes "secret") members _ stated.secret).size;
       nas_id_length = optional_text_at 253 _ (codes "nas_id") members _ c.in_ok-copied.field-0 stated.nas_id
           c.in_ok-copied.ensures.ok;
@@ -64,5 +73,6 @@ returns-clause-ok c =
       c.in_ok-new.ensures,
       c.in_ok-copied.ensures.ok,
       c.in_ok-copied-2.ensures.ok,
-    ) (c.in-Some.ensures (map string_bytes c.in_ok-of_access_servers.field-0.items) request.items reply.items
+    ) (c.in-Some.ensures (map shown_prefix c.in_ok-at.field-0.items)
+    (map string_bytes c.in_ok-of_access_servers.field-0.items) request.items reply.items c.in_ok-at.ensures.ok
     c.in_ok-of_access_servers.ensures.ok c.in_ok-of_requests.ensures.ok c.in_ok-of_replies.ensures.ok)

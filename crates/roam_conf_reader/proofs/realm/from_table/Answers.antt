@@ -2,17 +2,18 @@ use Rattle.toml.specs.Data.{Data, get_member}
 use Rattle.toml.specs.View.{table_view, array_view}
 use Rattle.std.proofs.Common.{◌≡◌, ◌≤◌, ◌∙◌, true, false, Option, Some, None, List, codes, is_some, map, option_map, sym, arith}
 use Rattle.std.proofs.lemmas.List.{length-map}
-use Rattle.std.specs.List.{list_all}
+use Rattle.std.proofs.lemmas.Bool.{and_parts}
+use Rattle.std.specs.List.{list_any}
 use Rattle.roam_wire.specs.RemovedAttributes.{is_removal_in_requests, is_removal_in_replies}
 use Rattle.roam_conf.specs.declared.accounting.Accounting.{Accounting}
 use Rattle.roam_conf.specs.declared.accounting.Accounting.TheVariants.{Forwarded, Answered, Dropped}
 use Rattle.roam_conf.specs.declared.server.Server.{Server}
 use Rattle.roam_conf.specs.Parts.{shown_client, shown_names, shown_server}
 use Rattle.roam_conf.specs.Patterns.{is_pattern, shown_pattern}
-use Rattle.roam_conf_reader.specs.Document.{StatesServer, sessions_unless_said, are_accounted}
+use Rattle.roam_conf_reader.specs.Document.{StatesServer, sessions_unless_said, are_serving, some_auth, some_acct}
 use Rattle.roam_conf_reader.specs.Values.{pattern, removed}
 use Rattle.roam_conf_reader.proofs.EndpointLemmas.{endpoints_at, endpoints_if}
-use Rattle.roam_conf_reader.proofs.ListLemmas.{is_list_of, stated_pattern, stated_removed, few_names, accounted_shown, not_accounted}
+use Rattle.roam_conf_reader.proofs.ListLemmas.{is_list_of, stated_pattern, stated_removed, few_names, auth_shown, acct_shown, not_serving}
 use Rattle.roam_conf_reader.proofs.RangeLemmas.{text_at, number_or_at, optional_number_at, each_range}
 use Rattle.roam_conf_reader.proofs.realm.from_table.Goals as goal
 
@@ -20,13 +21,24 @@ few_sessions : (reverse : Option Data) → sessions_unless_said reverse ≤ 6553
 few_sessions None = omega arith
 few_sessions (Some found) = omega arith
 
--- where accounting is forwarded, each server takes it
-all_take : (accounting : Accounting) (servers : List Server) →
-    are_accounted accounting (map shown_server servers) ≡ true → accounting ≡ Forwarded →
-    list_all (λ (s : Server). is_some s.acct) servers ≡ true
-all_take Forwarded servers all is = sym (accounted_shown servers) ∙ all
-all_take Answered servers all is = cc
-all_take Dropped servers all is = cc
+-- some server takes Access-Requests, and accounting where it is forwarded
+some_auth_there : (accounting : Accounting) (servers : List Server) →
+    are_serving accounting (map shown_server servers) ≡ true →
+    list_any (λ (s : Server). is_some s.auth) servers ≡ true
+some_auth_there Forwarded servers is =
+    sym (auth_shown servers)
+    ∙ (and_parts (some_auth (map shown_server servers)) (some_acct (map shown_server servers)) is).0
+some_auth_there Answered servers is = sym (auth_shown servers) ∙ is
+some_auth_there Dropped servers is = sym (auth_shown servers) ∙ is
+
+some_acct_there : (accounting : Accounting) (servers : List Server) →
+    are_serving accounting (map shown_server servers) ≡ true → accounting ≡ Forwarded →
+    list_any (λ (s : Server). is_some s.acct) servers ≡ true
+some_acct_there Forwarded servers is forwarded =
+    sym (acct_shown servers)
+    ∙ (and_parts (some_auth (map shown_server servers)) (some_acct (map shown_server servers)) is).1
+some_acct_there Answered servers is forwarded = cc
+some_acct_there Dropped servers is forwarded = cc
 
 -- What is stated is in its range.
 pub invariant_of-result : goal.invariant_of-result
@@ -40,14 +52,14 @@ invariant_of-result c =
     let out = c.in_ok-at.field-0 in
     let reverse = c.in_ok-at_if_there.field-0 in
     let servers = c.in_ok-servers.servers in
-    let accounted : are_accounted c.in-Some.text.accounting (map shown_server servers.items) ≡ true =
-    rw (← c.as_slice.ensures.value, ← c.are_accounted.ensures) c.if-not-are_accounted.false in
+    let serving : are_serving c.in-Some.text.accounting (map shown_server servers.items) ≡ true =
+    rw (← c.as_slice.ensures.value, ← c.are_serving.ensures) c.if-not-are_serving.false in
     let stated = c.in-Some.ensures.0 (map shown_pattern patterns.items) (option_map shown_names peers) request.items
     reply.items (map shown_client clients.items) out.items reverse.items (map shown_server servers.items)
     c.in_ok-all_from.ensures.ok
     c.in_ok-of_peers.ensures.ok c.in_ok-of_requests.ensures.ok c.in_ok-of_replies.ensures.ok
     c.in_ok-all_from-2.ensures.ok c.in_ok-at.ensures.ok c.in_ok-at_if_there.ensures.ok
-    c.in_ok-servers.ensures.ok accounted in
+    c.in_ok-servers.ensures.ok serving in
     let count = each_range StatesServer shown_server 8 (codes "server") members
     (array_view c.in-Some.text.servers.now) servers.items c.in-Some.ensures.1 c.in_ok-servers.ensures.ok in
     let name = text_at 253 _ (codes "name") members _ stated.name in
@@ -78,7 +90,8 @@ invariant_of-result c =
       share_range = optional_number_at 1 4096 (codes "share") members _ stated.share;
       peer_share_range = optional_number_at 1 4096 (codes "peer_share") members _ stated.peer_share;
       coa_client_count = c.in_ok-all_from-2.ensures.count;
-      accounted = all_take c.in-Some.text.accounting servers.items accounted;
+      asked = λ here. some_auth_there c.in-Some.text.accounting servers.items serving;
+      accounted = λ here. some_acct_there c.in-Some.text.accounting servers.items serving;
       out_count = (omega (arith, outs.size, out.ok), omega (arith, outs.size, out.ok));
       reverse_count = omega (arith, reverses.0, reverse.ok);
       ports = (outs.ports, reverses.1);
@@ -104,21 +117,21 @@ returns-clause-ok c =
     let reply = c.in_ok-of_replies.field-0 in
     let clients = c.in_ok-all_from-2.field-0 in
     let servers = c.in_ok-servers.servers in
-    let accounted : are_accounted c.in-Some.text.accounting (map shown_server servers.items) ≡ true =
-    rw (← c.as_slice.ensures.value, ← c.are_accounted.ensures) c.if-not-are_accounted.false in
+    let serving : are_serving c.in-Some.text.accounting (map shown_server servers.items) ≡ true =
+    rw (← c.as_slice.ensures.value, ← c.are_serving.ensures) c.if-not-are_serving.false in
     rw c.in_ok-from_str.ensures.ok (c.in-Some.ensures.0 (map shown_pattern patterns.items)
     (option_map shown_names peers) request.items reply.items (map shown_client clients.items) c.in_ok-at.field-0.items
     c.in_ok-at_if_there.field-0.items
     (map shown_server servers.items) c.in_ok-all_from.ensures.ok c.in_ok-of_peers.ensures.ok
     c.in_ok-of_requests.ensures.ok c.in_ok-of_replies.ensures.ok c.in_ok-all_from-2.ensures.ok
     c.in_ok-at.ensures.ok c.in_ok-at_if_there.ensures.ok
-    c.in_ok-servers.ensures.ok accounted)
+    c.in_ok-servers.ensures.ok serving)
 
--- A realm whose accounting is forwarded to a server that takes none is stated by no table.
-pub returns-then-not-are_accounted-clause-bad : goal.returns-then-not-are_accounted-clause-bad
-returns-then-not-are_accounted-clause-bad c = λ is_bad r stated.
+-- A realm whose servers don't take what is forwarded to them is stated by no table.
+pub returns-then-not-are_serving-clause-bad : goal.returns-then-not-are_serving-clause-bad
+returns-then-not-are_serving-clause-bad c = λ is_bad r stated.
     let servers = c.in_ok-servers.servers in
-    let none : are_accounted c.in-Some.text.accounting (map shown_server servers.items) ≡ false =
-    rw (← c.as_slice.ensures.value, ← c.are_accounted.ensures) c.if-not-are_accounted.true in
-    not_accounted (table_view c.args.table.now) (array_view c.in-Some.text.servers.now) r c.in-Some.text.accounting
+    let none : are_serving c.in-Some.text.accounting (map shown_server servers.items) ≡ false =
+    rw (← c.as_slice.ensures.value, ← c.are_serving.ensures) c.if-not-are_serving.true in
+    not_serving (table_view c.args.table.now) (array_view c.in-Some.text.servers.now) r c.in-Some.text.accounting
     (map shown_server servers.items) c.in-Some.ensures.1 c.in-Some.ensures.2 c.in_ok-servers.ensures.ok none stated

@@ -1,6 +1,6 @@
 use Rattle.toml.specs.View.{table_view}
 use Rattle.std.proofs.Common.{codes}
-use Rattle.roam_conf_reader.proofs.RangeLemmas.{text_at, port_at, optional_port_at}
+use Rattle.roam_conf_reader.proofs.RangeLemmas.{text_at, optional_port_at}
 use Rattle.roam_conf_reader.proofs.server.from_table.Goals as goal
 
 -- A secret that is stated is short.
@@ -16,7 +16,8 @@ invariant_of-result c =
     record {
       secret_length = rw c.in_ok-new.ensures (text_at 64 _ (codes "secret") members _ stated.secret).size;
       ports = (
-        port_at (codes "auth") members _ stated.auth,
+        optional_port_at (codes "auth") members c.in-Some.text.auth stated.auth,
         optional_port_at (codes "acct") members c.in-Some.text.acct stated.acct,
       );
+      serves = stated.service;
     }

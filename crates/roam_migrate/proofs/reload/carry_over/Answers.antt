@@ -1,4 +1,5 @@
 use Rattle.std.proofs.Common.{arith}
+use Rattle.roam_reload.proofs.AddressLemmas.{sources_stay}
 use Rattle.roam_migrate.specs.Reload.{Carries}
 use Rattle.roam_migrate.proofs.CarriedOverLemmas.{ready_none, untouched_state}
 use Rattle.roam_migrate.proofs.EntriesOverLemmas.{no_fewer}
@@ -28,8 +29,9 @@ returns-then-stands_as_it_is-clause-state g c =
     } in
     let more = c.add_lanes.ensures in
     untouched_state c.args.old.now c.args.new.now (g.E.Entries.entries_of c.args.entries.now c.args.old.now.index)
-    c.args.numbers.now c.add_lanes.new.numbers k c.requires.sound.lane_count more.more more.ticket more.stream_position
-    more.rests more.sessions
+    c.args.numbers.now c.add_lanes.new.numbers k
+    (sources_stay c.args.old.now.peers c.args.new.now.peers untouched.peers untouched.count)
+    c.requires.sound.lane_count more.more more.ticket more.stream_position more.rests more.sessions
 
 pub returns-then-stands_as_it_is-clause-sound : goal.returns-then-stands_as_it_is-clause-sound
 returns-then-stands_as_it_is-clause-sound g c =

@@ -1,6 +1,7 @@
-use Rattle.std.proofs.Common.{refl, sym, ◌∙◌, arith}
+use Rattle.std.proofs.Common.{map, refl, sym, ◌∙◌, arith}
+use Rattle.std.proofs.lemmas.List.{length-map}
 use Rattle.roam_conf.specs.Parts.{shown_peer}
-use Rattle.roam_reload.proofs.PeerLemmas.{agrees, all_kept, differs, gone, one_more, other}
+use Rattle.roam_reload.proofs.PeerLemmas.{agrees, all_kept, differs, gone, kept_at, one_more, other}
 use Rattle.roam_reload.proofs.peers.other_peer.Goals as goal
 use Rattle.roam_reload.proofs.peers.other_peer.Goals.{then-i-new-via-then-i-new, then-i-new-via-else-i-new+then-is_some}
 
@@ -25,13 +26,20 @@ loop-i-preserved c =
     let new = c.args.new.now in (
       refl,
       refl,
-      one_more old new c.loop-i.i c.index-old-i.result c.index-new-i.result (omega arith) (omega arith)
+      one_more (map shown_peer old) (map shown_peer new) c.loop-i.i c.loop-i.invariant.2
+          (kept_at old new c.loop-i.i c.index-old-i.result c.index-new-i.result (omega arith) (omega arith)
           c.index-old-i.is c.index-new-i.is
           (agrees (shown_peer c.index-old-i.result) (shown_peer c.index-new-i.result) c.peer_difference.result
-          c.peer_difference.ensures.none (sym c.is_some.ensures ∙ c.if-is_some.false))
-          c.loop-i.invariant.2,
+          c.peer_difference.ensures.none (sym c.is_some.ensures ∙ c.if-is_some.false))),
     )
+
+-- none was looked at
+pub loop-i-init : goal.loop-i-init
+loop-i-init c = (refl, refl, λ peer less. absurd (omega (arith, less)))
 
 -- all are
 pub returns-clause-none : goal.returns-clause-none
-returns-clause-none c = all_kept c.args.old.now c.args.new.now c.loop-i.i (omega arith) c.loop-i.invariant.2
+returns-clause-none c =
+    let old = c.args.old.now in
+    all_kept (map shown_peer old) (map shown_peer c.args.new.now) (λ peer less.
+    c.loop-i.invariant.2 peer (omega (arith, less, length-map old shown_peer)))

@@ -11,8 +11,8 @@ pub returns-then-ne-2-clause-some : goal.returns-then-ne-2-clause-some
 returns-then-ne-2-clause-some c =
     let old = c.args.old.now.coa_clients.items in
     let new = c.args.new.now.coa_clients.items in
-    differs (map shown_client old) (map shown_client new) (pointwise client_eq old new) c.ne-else-old-new-3.result
-    (list_decides client_eq shown_client client_decides old new) c.ne-else-old-new-3.ensures c.if-ne-2.true
+    differs (map shown_client old) (map shown_client new) (pointwise client_eq old new) c.ne-else-old-new-4.result
+    (list_decides client_eq shown_client client_decides old new) c.ne-else-old-new-4.ensures c.if-ne-2.true
 
 -- no key differs
 pub returns-else-ne-2-clause-none : goal.returns-else-ne-2-clause-none
@@ -23,9 +23,10 @@ returns-else-ne-2-clause-none c =
       peer_share = search rules;
       own_names = search rules;
       conversations = search rules;
+      by_user = search rules;
       own_sessions = search rules;
       coa_clients = agrees (map shown_client old.coa_clients.items) (map shown_client new.coa_clients.items)
-          (pointwise client_eq old.coa_clients.items new.coa_clients.items) c.ne-else-old-new-3.result
+          (pointwise client_eq old.coa_clients.items new.coa_clients.items) c.ne-else-old-new-4.result
           (list_decides client_eq shown_client client_decides old.coa_clients.items new.coa_clients.items)
-          c.ne-else-old-new-3.ensures c.if-ne-2.false;
+          c.ne-else-old-new-4.ensures c.if-ne-2.false;
     }

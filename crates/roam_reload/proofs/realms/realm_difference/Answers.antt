@@ -25,6 +25,7 @@ same_part a b gone out reverse servers same = λ i. record {
   peer_share = same.1.0.peer_share i;
   own_names = same.1.0.own_names i;
   conversations = same.1.0.conversations i;
+  by_user = same.1.0.by_user i;
   own_sessions = same.1.0.own_sessions i;
   coa_clients = same.1.0.coa_clients i;
   out = out i;

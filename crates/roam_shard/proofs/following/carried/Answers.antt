@@ -36,9 +36,9 @@ carry_over-requires-clause-servers g c =
     let old = c.args.change.from.now in
     let new = c.args.change.to.now in
     rw (c.new-old.ensures, c.new-new.ensures) (
-      distinct_in (shown old) c.args.realm old.distinct_servers
+      distinct_in old c.args.realm
           (here_within (shown old) c.args.realm c.requires.carried.carried.was_here),
-      distinct_in (shown new) c.args.realm new.distinct_servers
+      distinct_in new c.args.realm
           (here_within (shown new) c.args.realm c.requires.carried.carried.is_here),
     )
 

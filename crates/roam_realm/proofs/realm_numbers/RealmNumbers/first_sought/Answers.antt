@@ -1,34 +1,32 @@
-use Rattle.std.proofs.Common.{◌<◌, arith, length}
+use Rattle.std.proofs.Common.{◌<◌, ◌∙◌, arith, length, sym}
 use Rattle.std.specs.List.{find}
-use Rattle.roam_realm.specs.RealmConfig.{links_from}
+use Rattle.roam_realm.specs.ServerOrder.{in_order, links_from}
 use Rattle.roam_realm.specs.Sound.{is_sought}
-use Rattle.roam_realm.proofs.WaysToLemmas.{server-hit, server-skip}
+use Rattle.roam_realm.proofs.OrderLemmas.{order-hit, order-skip}
 use Rattle.roam_realm.proofs.realm_numbers.RealmNumbers.first_sought.Goals as goal
 
 -- a link to this server is sought, and none to those before it was
-pub returns-in-Some-clause-first : goal.returns-in-Some-clause-first
-returns-in-Some-clause-first g c =
+pub returns-then-is_some-clause-first : goal.returns-then-is_some-clause-first
+returns-then-is_some-clause-first g c =
     let settings = c.args.settings.now in
-    let outs = settings.realm.out in
-    let servers = settings.realm.servers in
+    let order = in_order settings c.args.servers in
     let sought = is_sought settings c.args.self.now.rests.items c.args.self.now.lanes.items c.args.wanted
     c.args.freed in
-    let count = c.server_count-server-end.ensures.count in
-    let within : c.loop-server.server < length servers = omega (arith, c.loop-server-test.true, count) in
-    server-hit sought outs c.args.servers.service servers c.loop-server.server c.in-Some.link
-    (find sought (links_from settings c.args.servers.service c.args.servers.first))
-    within c.in-Some.ensures.first c.loop-server.invariant
+    let count = c.order_count-nth-end.ensures.count in
+    let within : c.loop-nth.nth < length order = omega (arith, c.loop-nth-test.true, count) in
+    order-hit sought settings c.args.servers.service order c.loop-nth.nth c.sought_at-link.result
+    (find sought (links_from settings c.args.servers)) within c.sought_at-link.ensures.first c.loop-nth.invariant
+    (sym c.is_some.ensures ∙ c.if-is_some.true)
 
 -- none to this server is sought, nor was one to those before it
-pub loop-server-preserved : goal.loop-server-preserved
-loop-server-preserved g c =
+pub loop-nth-preserved : goal.loop-nth-preserved
+loop-nth-preserved g c =
     let settings = c.args.settings.now in
-    let outs = settings.realm.out in
-    let servers = settings.realm.servers in
+    let order = in_order settings c.args.servers in
     let sought = is_sought settings c.args.self.now.rests.items c.args.self.now.lanes.items c.args.wanted
     c.args.freed in
-    let count = c.server_count-server-end.ensures.count in
-    let within : c.loop-server.server < length servers = omega (arith, c.loop-server-test.true, count) in
-    server-skip sought outs c.args.servers.service servers c.loop-server.server
-    (find sought (links_from settings c.args.servers.service c.args.servers.first))
-    within c.in_default.ensures.first c.loop-server.invariant
+    let count = c.order_count-nth-end.ensures.count in
+    let within : c.loop-nth.nth < length order = omega (arith, c.loop-nth-test.true, count) in
+    order-skip sought settings c.args.servers.service order c.loop-nth.nth c.sought_at-link.result
+    (find sought (links_from settings c.args.servers)) within c.sought_at-link.ensures.first c.loop-nth.invariant
+    (sym c.is_some.ensures ∙ c.if-is_some.false)

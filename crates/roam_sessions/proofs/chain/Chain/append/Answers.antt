@@ -1,14 +1,15 @@
-use Rattle.std.proofs.Common.{◌≡◌, ℕ, ◌+◌, ◌-◌, ◌<◌, List, [], ◌∷◌, length, ap, ◌∙◌, subst, arith, length-append}
+use Rattle.std.proofs.Common.{◌≡◌, ℕ, ◌+◌, ◌-◌, ◌<◌, List, [], ◌∷◌, length, Some, ap, ◌∙◌, subst, arith, length-append}
 use Rattle.roam_wire.specs.Numbered.{tickets_end}
 use Rattle.roam_sessions.specs.Facets.{ComesIn, FacetsHaveRoom}
 use Rattle.roam_sessions.specs.Kept.{kept_session}
-use Rattle.roam_sessions.specs.Maps.{HasRoom, session_of}
+use Rattle.roam_sessions.specs.Maps.{number_at, session_of}
 use Rattle.roam_sessions.specs.Private.Tickets.{all_listed}
 use Rattle.roam_sessions.specs.Sessions.{Session}
 use Rattle.roam_sessions.specs.Stands.{session_at, whole_rows}
 use Rattle.roam_sessions.proofs.ListedLemmas.{listed-last}
 use Rattle.roam_sessions.proofs.SoundLemmas.{tickets-come}
-use Rattle.roam_sessions.proofs.WholeLemmas.{comes-whole}
+use Rattle.roam_sessions.proofs.NotedLemmas.{noted-comes}
+use Rattle.roam_sessions.proofs.WholeLemmas.{comes-whole, row-of-session}
 use Rattle.roam_sessions.proofs.chain.Chain.append.Goals as goal
 
 pub overflow_add-self : goal.overflow_add-self
@@ -37,16 +38,19 @@ returns-clause-sound g c =
     record {
       tickets = tickets-come F G next s sound.tickets c.requires.absent c.put.ensures.puts
           (omega (arith, sound.ticket_room, c.requires.room));
-      whole = c.append.ensures.grouped (whole_rows F) (whole_rows G) sound.whole
-          (comes-whole F G next s _ c.args.new.whole_is comes);
-      of_peer = c.append-2.ensures.faceted F G s sound.of_peer c.args.new.of_peer_are comes;
+      whole = noted-comes (whole_rows F) (whole_rows G) (number_at c.args.self.now.whole)
+          (number_at c.note_number.new.map) next c.args.new.whole.items sound.whole
+          (comes-whole F G next s _ c.args.new.whole_is comes)
+          (λ u is. c.requires.absent u (row-of-session F u s
+          (is ∙ ap (λ (l : List ℕ). Some l) c.args.new.whole_is)))
+          c.note_number.ensures.puts;
+      of_peer = c.append.ensures.faceted F G s sound.of_peer c.args.new.of_peer_are comes;
       count = ap (λ (l : List Session). length l) listed ∙ length-append (all_listed F) (s ∷ [])
           ∙ omega (arith, sound.count, c.put.ensures.len);
       room = record {
         by_ticket = omega (arith, sound.room.by_ticket, c.put.ensures.room, c.requires.room);
-        whole = c.append.ensures.room (c.args.self.now.spare - 1)
-            (subst (λ (n : ℕ). HasRoom n c.args.self.now.whole) spare sound.room.whole);
-        of_peer = c.append-2.ensures.room (c.args.self.now.spare - 1)
+        whole = omega (arith, sound.room.whole, c.note_number.ensures.room, c.requires.room);
+        of_peer = c.append.ensures.room (c.args.self.now.spare - 1)
             (subst (λ (n : ℕ). FacetsHaveRoom n c.args.self.now.of_peer) spare sound.room.of_peer);
       };
       ticket_room = omega (arith, sound.ticket_room, c.requires.room);
@@ -62,32 +66,19 @@ pub put-requires-clause-free : goal.put-requires-clause-free
 put-requires-clause-free g c = c.requires.sound.tickets.given c.args.self.now.next (omega arith)
 
 -- room for one is there where there is some
+pub note_number-requires : goal.note_number-requires
+note_number-requires g c = omega (arith, c.requires.sound.room.whole, c.requires.room)
+
 pub append-requires : goal.append-requires
 append-requires g c =
-    let room = c.requires.sound.room.whole in
-    record { ends = omega (arith, room.ends, c.requires.room); beside = omega (arith, room.beside, c.requires.room) }
-
-pub append-requires-2 : goal.append-requires-2
-append-requires-2 g c =
     let room = c.requires.sound.room.of_peer in
     let some = c.requires.room in
     record {
-      by_peer = record {
-        ends = omega (arith, room.by_peer.ends, some);
-        beside = omega (arith, room.by_peer.beside, some);
-      };
-      by_address = record {
-        ends = omega (arith, room.by_address.ends, some);
-        beside = omega (arith, room.by_address.beside, some);
-      };
-      by_identifier = record {
-        ends = omega (arith, room.by_identifier.ends, some);
-        beside = omega (arith, room.by_identifier.beside, some);
-      };
-      by_both = record {
-        ends = omega (arith, room.by_both.ends, some);
-        beside = omega (arith, room.by_both.beside, some);
-      };
+      links = omega (arith, room.links, some);
+      by_peer = omega (arith, room.by_peer, some);
+      by_address = omega (arith, room.by_address, some);
+      by_identifier = omega (arith, room.by_identifier, some);
+      by_both = omega (arith, room.by_both, some);
       by_ipv6 = record {
         ends = omega (arith, room.by_ipv6.ends, some);
         beside = omega (arith, room.by_ipv6.beside, some);
@@ -104,8 +95,5 @@ append-requires-2 g c =
         ends = omega (arith, room.by_all.ends, some);
         beside = omega (arith, room.by_all.beside, some);
       };
-      by_id = record {
-        ends = omega (arith, room.by_id.ends, some);
-        beside = omega (arith, room.by_id.beside, some);
-      };
+      by_id = omega (arith, room.by_id, some);
     }

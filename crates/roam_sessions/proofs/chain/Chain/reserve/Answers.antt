@@ -16,20 +16,20 @@ returns-in_err-reserve-clause-sound g c =
 pub returns-in_err-reserve-2-clause-sound : goal.returns-in_err-reserve-2-clause-sound
 returns-in_err-reserve-2-clause-sound g c =
     let sound = c.requires in
-    grown-sound c.args.self.now _ sound c.reserve.ensures.entries c.reserve-2.ensures.same (λ F are. are) refl
+    grown-sound c.args.self.now _ sound c.reserve.ensures.entries c.reserve-2.ensures.entries (λ F are. are) refl
     (record {
       by_ticket = omega (arith, sound.room.by_ticket, c.reserve.ensures.room.0);
-      whole = c.reserve-2.ensures.room c.args.self.now.spare sound.room.whole;
+      whole = omega (arith, sound.room.whole, c.reserve-2.ensures.room.0);
       of_peer = sound.room.of_peer;
     }) sound.ticket_room
 
 pub returns-in_err-reserve-3-clause-sound : goal.returns-in_err-reserve-3-clause-sound
 returns-in_err-reserve-3-clause-sound g c =
     let sound = c.requires in
-    grown-sound c.args.self.now _ sound c.reserve.ensures.entries c.reserve-2.ensures.same c.reserve-3.ensures.same refl
+    grown-sound c.args.self.now _ sound c.reserve.ensures.entries c.reserve-2.ensures.entries c.reserve-3.ensures.same refl
     (record {
       by_ticket = omega (arith, sound.room.by_ticket, c.reserve.ensures.room.0);
-      whole = c.reserve-2.ensures.room c.args.self.now.spare sound.room.whole;
+      whole = omega (arith, sound.room.whole, c.reserve-2.ensures.room.0);
       of_peer = c.reserve-3.ensures.room c.args.self.now.spare sound.room.of_peer;
     }) sound.ticket_room
 
@@ -37,7 +37,7 @@ pub returns-clause-sound : goal.returns-clause-sound
 unfolding tickets_end
 returns-clause-sound g c =
     let sound = c.requires in
-    grown-sound c.args.self.now _ sound c.reserve.ensures.entries c.reserve-2.ensures.same c.reserve-3.ensures.same refl
+    grown-sound c.args.self.now _ sound c.reserve.ensures.entries c.reserve-2.ensures.entries c.reserve-3.ensures.same refl
     (record {
       by_ticket = c.in_ok-reserve.ensures.ok;
       whole = c.in_ok-reserve-2.ensures.ok;

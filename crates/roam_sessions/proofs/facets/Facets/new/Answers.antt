@@ -1,26 +1,40 @@
-use Rattle.std.proofs.Common.{true, false, ap}
+use Rattle.std.proofs.Common.{◌≡◌, ℕ, true, false, List, Option, None, refl, sym, ap, subst}
 use Rattle.std.specs.Prelude.{option_and_then}
 use Rattle.roam_sessions.specs.Facets.{id_rows, masked, rows_under}
+use Rattle.roam_sessions.specs.Maps.{linked}
+use Rattle.roam_sessions.specs.Private.Groups.{AreEndsOf, IsGrouped, PlainGroups, if_row}
 use Rattle.roam_sessions.specs.Private.Row.{id_row, row_under}
+use Rattle.roam_sessions.specs.declared.ends.Ends.{Ends}
+use Rattle.roam_sessions.specs.declared.links.Facet.TheVariants as facet
 use Rattle.roam_sessions.proofs.facets.Facets.new.Goals as goal
+
+-- no number is in a group, and no group has ends
+begun : (f : ℕ → Option (List ℕ)) (p : PlainGroups) → ((t : ℕ) → f t ≡ None) → ((row : List ℕ) → p.ends row ≡ None)
+    → IsGrouped f p
+begun f p none empty = record {
+  ends = λ row. subst (λ (o : Option Ends). AreEndsOf f row o) (sym (empty row)) (λ t. ap (if_row row) (none t));
+  beside = λ t row is. absurd (let k = none t in cc (k, is));
+  within = λ t row is. absurd (let k = none t in cc (k, is));
+}
 
 pub returns : goal.returns
 returns g c = λ F none. record {
-  by_peer = c.new.ensures (rows_under (masked false false false false) F)
-      (λ t. ap (option_and_then (row_under (masked false false false false))) (none t));
-  by_address = c.new-2.ensures (rows_under (masked true false false false) F)
-      (λ t. ap (option_and_then (row_under (masked true false false false))) (none t));
-  by_identifier = c.new-3.ensures (rows_under (masked false true false false) F)
-      (λ t. ap (option_and_then (row_under (masked false true false false))) (none t));
-  by_both = c.new-4.ensures (rows_under (masked true true false false) F)
-      (λ t. ap (option_and_then (row_under (masked true true false false))) (none t));
-  by_ipv6 = c.new-5.ensures (rows_under (masked false false true false) F)
+  by_peer = begun (rows_under (masked false false false false) F) (linked facet.Peer c.with_hasher.result c.new.result)
+      (λ t. ap (option_and_then (row_under (masked false false false false))) (none t)) (λ row. rw c.with_hasher.ensures.empty refl);
+  by_address = begun (rows_under (masked true false false false) F) (linked facet.Address c.with_hasher-2.result c.new.result)
+      (λ t. ap (option_and_then (row_under (masked true false false false))) (none t)) (λ row. rw c.with_hasher-2.ensures.empty refl);
+  by_identifier = begun (rows_under (masked false true false false) F) (linked facet.Identifier c.with_hasher-3.result c.new.result)
+      (λ t. ap (option_and_then (row_under (masked false true false false))) (none t)) (λ row. rw c.with_hasher-3.ensures.empty refl);
+  by_both = begun (rows_under (masked true true false false) F) (linked facet.Both c.with_hasher-4.result c.new.result)
+      (λ t. ap (option_and_then (row_under (masked true true false false))) (none t)) (λ row. rw c.with_hasher-4.ensures.empty refl);
+  by_ipv6 = c.new-2.ensures (rows_under (masked false false true false) F)
       (λ t. ap (option_and_then (row_under (masked false false true false))) (none t));
-  by_address_ipv6 = c.new-6.ensures (rows_under (masked true false true false) F)
+  by_address_ipv6 = c.new-3.ensures (rows_under (masked true false true false) F)
       (λ t. ap (option_and_then (row_under (masked true false true false))) (none t));
-  by_identifier_ipv6 = c.new-7.ensures (rows_under (masked false true true false) F)
+  by_identifier_ipv6 = c.new-4.ensures (rows_under (masked false true true false) F)
       (λ t. ap (option_and_then (row_under (masked false true true false))) (none t));
-  by_all = c.new-8.ensures (rows_under (masked true true true false) F)
+  by_all = c.new-5.ensures (rows_under (masked true true true false) F)
       (λ t. ap (option_and_then (row_under (masked true true true false))) (none t));
-  by_id = c.new-9.ensures (id_rows F) (λ t. ap (option_and_then id_row) (none t));
+  by_id = begun (id_rows F) (linked facet.Id c.with_hasher-5.result c.new.result)
+      (λ t. ap (option_and_then id_row) (none t)) (λ row. rw c.with_hasher-5.ensures.empty refl);
 }

@@ -1,9 +1,0 @@
-use Rattle.roam_cli.proofs.PrintedLemmas.{printed_more}
-use Rattle.roam_cli.proofs.changes.print_peers.Goals as goal
-
--- one peer more
-pub loop-index-preserved : goal.loop-index-preserved
-loop-index-preserved g c =
-    let contents = g.W.Write.contents in
-    printed_more (contents c.args.writer.now) (contents c.loop-index.writer) (contents c.print_peer_since.new.writer)
-    c.loop-index.invariant c.in_ok-print_peer_since.ensures
