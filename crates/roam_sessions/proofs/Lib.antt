@@ -29,7 +29,6 @@ pub mod LinkLemmas
 pub mod LinkedLemmas
 pub mod OneSessionLemmas
 pub mod MapLemmas
-pub mod NotedLemmas
 pub mod PackedLemmas
 pub mod ShortLemmas
 pub mod PairLemmas
@@ -37,4 +36,5 @@ pub mod EndedLemmas
 pub mod OpenLemmas
 pub mod MarkLemmas
 pub mod WalkLemmas
+pub mod BucketLemmas
 pub mod PartedLemmas

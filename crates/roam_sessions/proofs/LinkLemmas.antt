@@ -50,6 +50,7 @@ link-same facet.Address x l = refl
 link-same facet.Identifier x l = refl
 link-same facet.Both x l = refl
 link-same facet.Id x l = refl
+link-same facet.Whole x l = refl
 
 pub link-other : (other facet : Facet) → is_facet other facet ≡ false → (x : Link) (l : Links)
     → link_of other (with_link facet x l) ≡ link_of other l
@@ -58,26 +59,37 @@ link-other facet.Peer facet.Address h x l = refl
 link-other facet.Peer facet.Identifier h x l = refl
 link-other facet.Peer facet.Both h x l = refl
 link-other facet.Peer facet.Id h x l = refl
+link-other facet.Peer facet.Whole h x l = refl
 link-other facet.Address facet.Peer h x l = refl
 link-other facet.Address facet.Address h x l = absurd (cc h)
 link-other facet.Address facet.Identifier h x l = refl
 link-other facet.Address facet.Both h x l = refl
 link-other facet.Address facet.Id h x l = refl
+link-other facet.Address facet.Whole h x l = refl
 link-other facet.Identifier facet.Peer h x l = refl
 link-other facet.Identifier facet.Address h x l = refl
 link-other facet.Identifier facet.Identifier h x l = absurd (cc h)
 link-other facet.Identifier facet.Both h x l = refl
 link-other facet.Identifier facet.Id h x l = refl
+link-other facet.Identifier facet.Whole h x l = refl
 link-other facet.Both facet.Peer h x l = refl
 link-other facet.Both facet.Address h x l = refl
 link-other facet.Both facet.Identifier h x l = refl
 link-other facet.Both facet.Both h x l = absurd (cc h)
 link-other facet.Both facet.Id h x l = refl
+link-other facet.Both facet.Whole h x l = refl
 link-other facet.Id facet.Peer h x l = refl
 link-other facet.Id facet.Address h x l = refl
 link-other facet.Id facet.Identifier h x l = refl
 link-other facet.Id facet.Both h x l = refl
 link-other facet.Id facet.Id h x l = absurd (cc h)
+link-other facet.Id facet.Whole h x l = refl
+link-other facet.Whole facet.Peer h x l = refl
+link-other facet.Whole facet.Address h x l = refl
+link-other facet.Whole facet.Identifier h x l = refl
+link-other facet.Whole facet.Both h x l = refl
+link-other facet.Whole facet.Id h x l = refl
+link-other facet.Whole facet.Whole h x l = absurd (cc h)
 
 pub no-links : (facet : Facet) → option_map (beside_of facet) (Some (record {
   peer = record { older = 18446744073709551615; newer = 18446744073709551615 };
@@ -85,6 +97,7 @@ pub no-links : (facet : Facet) → option_map (beside_of facet) (Some (record {
   identifier = record { older = 18446744073709551615; newer = 18446744073709551615 };
   both = record { older = 18446744073709551615; newer = 18446744073709551615 };
   id = record { older = 18446744073709551615; newer = 18446744073709551615 };
+  whole = record { older = 18446744073709551615; newer = 18446744073709551615 };
 })) ≡ Some no_beside
 unfolding no_number
 no-links facet.Peer = refl
@@ -92,6 +105,7 @@ no-links facet.Address = refl
 no-links facet.Identifier = refl
 no-links facet.Both = refl
 no-links facet.Id = refl
+no-links facet.Whole = refl
 
 -- a number that isn't the one that is given keeps its neighbours
 pub at-other : (n u : ℕ) → u ≢ n → is_at (Some n) u ≡ false

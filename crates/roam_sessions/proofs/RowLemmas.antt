@@ -4,7 +4,7 @@ use Rattle.std.specs.Prelude.{◌&&◌, ◌||◌, is_none, is_some, option_map, 
 use Rattle.std.specs.Str.{bytes_eq}
 use Rattle.std.proofs.lemmas.Bool.{and_from, and_left, and_parts, and_right, cases_Bool, or_cases, or_parts}
 use Rattle.roam_sessions.specs.Private.Groups.{if_row}
-use Rattle.roam_sessions.specs.Private.Masks.{asked_by, asked_for, is_named, lacks, mask_of, narrow, without_names}
+use Rattle.roam_sessions.specs.Private.Masks.{asked_by, asked_for, lacks, mask_of, narrow, without_names}
 use Rattle.roam_sessions.specs.Private.Row.{part_text, row_text, whole_row}
 use Rattle.roam_sessions.specs.Sessions.{Asked, Session, agrees, agrees_in}
 use Rattle.roam_sessions.proofs.SameLemmas.{number-is, octets-are, octets-same, same-number}
@@ -235,27 +235,3 @@ module _ (q : Asked) (s : Session) where
       let e = agrees-is h in
       asked-is (without_names q) (without_names (asked_for s)) (ap (λ (p : Asked). p.peer) e) refl refl refl
       (ap (λ (p : Asked). p.id) e ∙ rw there refl)
-
-  -- a session that has a name isn't what is asked for without names
-  pub named-apart : is_named s ≡ true → bytes_eq (row_text (without_names q)) (whole_row s) ≡ false
-  named-apart named = elim (cases_Bool (bytes_eq (row_text (without_names q)) (whole_row s))) [
-    | inr apart ↦ apart
-    | inl same ↦ absurd (
-        let is = row-is (without_names q) (asked_for s)
-        (octets-are (row_text (without_names q)) (whole_row s) same) in
-        let none : is_named s ≡ false =
-        ap (λ (x : Asked). is_some x.nas.address || is_some x.nas.identifier || is_some x.nas.ipv6) (sym is) in
-        cc (named, none))
-  ]
-
--- one that has none is
-none-part : (o : Option (List ℕ)) → is_some o ≡ false → None ≡ o
-none-part None h = refl
-none-part (Some x) h = absurd (cc h)
-
-pub unnamed-whole : (s : Session) → is_named s ≡ false → without_names (asked_for s) ≡ asked_for s
-unnamed-whole s none =
-    let outer = or_parts (is_some s.nas.address || is_some s.nas.identifier) (is_some s.nas.ipv6) none in
-    let inner = or_parts (is_some s.nas.address) (is_some s.nas.identifier) outer.0 in
-    asked-is (without_names (asked_for s)) (asked_for s) refl (none-part s.nas.address inner.0)
-    (none-part s.nas.identifier inner.1) (none-part s.nas.ipv6 outer.1) refl

@@ -18,28 +18,6 @@ use Rattle.roam_sessions.proofs.NeighbourLemmas.{held-some}
 use Rattle.roam_sessions.proofs.RowLemmas.{whole-is}
 use Rattle.roam_sessions.proofs.SameLemmas.{same-number}
 
--- a session comes into the group of its own row, and goes out of it
-pub comes-whole : (F G : ℕ → Option Session) (t : ℕ) (s : Session) (w : List ℕ) → w ≡ whole_row s → ComesIn F G t s
-    → Comes (whole_rows F) (whole_rows G) t (Some w)
-comes-whole F G t s w is comes = record {
-  puts = record {
-    changed = ap (option_map whole_row) comes.puts.changed ∙ ap (λ (l : List ℕ). Some l) (sym is);
-    others = λ u ne. ap (option_map whole_row) (comes.puts.others u ne);
-  };
-  free = λ u le. ap (option_map whole_row) (comes.free u le);
-  within = comes.within;
-}
-
-pub goes-whole : (F G : ℕ → Option Session) (t : ℕ) (s : Session) (w : List ℕ) → w ≡ whole_row s → F t ≡ Some s
-    → PutsAt F G t None → Goes (whole_rows F) (whole_rows G) t (Some w)
-goes-whole F G t s w is at goes = record {
-  was = ap (option_map whole_row) at ∙ ap (λ (l : List ℕ). Some l) (sym is);
-  puts = record {
-    changed = ap (option_map whole_row) goes.changed;
-    others = λ u ne. ap (option_map whole_row) (goes.others u ne);
-  };
-}
-
 -- a ticket whose row is a session's own is that session's
 pub row-of-session : (F : ℕ → Option Session) (t : ℕ) (s : Session) → whole_rows F t ≡ Some (whole_row s) → F t ≡ Some s
 row-of-session F t s is = by (F t) refl
@@ -50,14 +28,6 @@ row-of-session F t s is = by (F t) refl
         let both : Some (whole_row x) ≡ Some (whole_row s) = sym (ap (option_map whole_row) at) ∙ is in
         let rows : whole_row x ≡ whole_row s = cc both in
         at ∙ ap (λ (z : Session). Some z) (whole-is x s rows))
-
-pub found-whole : (F : ℕ → Option Session) (w : List ℕ → Option ℕ) (s : Session) → IsNoted (whole_rows F) w
-    → IsTicketOf s F (w (whole_row s))
-found-whole F w s noted = by (w (whole_row s)) refl
-  where
-    by : (o : Option ℕ) → w (whole_row s) ≡ o → IsTicketOf s F o
-    by None none = λ t at. absurd (let k = noted.noted t (whole_row s) (ap (option_map whole_row) at) in cc (k, none))
-    by (Some t) at = row-of-session F t s (noted.found (whole_row s) t at)
 
 -- the sessions of a peer
 abbrev pub of_peer : ℕ → Asked

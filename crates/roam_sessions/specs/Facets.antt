@@ -4,22 +4,28 @@ use Rattle.std.specs.declared.vec.Vec.{Vec}
 use Rattle.roam_wire.specs.Numbered.{PutsAt, tickets_end}
 use Rattle.roam_sessions.specs.Sessions.{Asked, Session}
 use Rattle.indexmap.specs.IndexMap.{spare}
-use Rattle.roam_sessions.specs.Maps.{HasRoom, ends_at, groups_of, linked}
+use Rattle.roam_sessions.specs.Maps.{HasRoom, chained, ends_at, groups_of, linked}
+use Rattle.roam_sessions.specs.Private.Buckets.{id_bucket, id_text, whole_bucket, whole_text}
 use Rattle.roam_sessions.specs.Private.Groups.{IsGrouped}
-use Rattle.roam_sessions.specs.Private.Row.{id_row, row_under}
+use Rattle.roam_sessions.specs.Private.Row.{row_under}
 use Rattle.roam_sessions.specs.declared.asked.Mask.{Mask}
 use Rattle.roam_sessions.specs.declared.facets.Facets.{Facets}
 use Rattle.roam_sessions.specs.declared.session_rows.FacetRows.{FacetRows}
 use Rattle.roam_sessions.specs.declared.ends.Ends.{Ends}
+use Rattle.roam_sessions.specs.declared.buckets.Buckets.{Buckets}
+use Rattle.roam_sessions.specs.declared.buckets.Places.{Places}
 use Rattle.roam_sessions.specs.declared.links.Facet.TheVariants as facet
 
 -- the row of each ticket's session by some of its parts
 abbrev pub rows_under : Mask → (ℕ → Option Session) → ℕ → Option (List ℕ)
 rows_under mask F t = option_and_then (row_under mask) (F t)
 
--- by its id
-abbrev pub id_rows : (ℕ → Option Session) → ℕ → Option (List ℕ)
-id_rows F t = option_and_then id_row (F t)
+-- the bucket of each ticket's session by its peer and its id, and by all that it is
+abbrev pub id_buckets : Buckets → (ℕ → Option Session) → ℕ → Option (List ℕ)
+id_buckets b F t = option_and_then (id_text b) (F t)
+
+abbrev pub whole_buckets : Buckets → (ℕ → Option Session) → ℕ → Option (List ℕ)
+whole_buckets b F t = option_and_then (whole_text b) (F t)
 
 -- by the peer alone, or by some names of the access server, and by the id or not
 abbrev pub masked : Bool → Bool → Bool → Bool → Mask
@@ -36,14 +42,12 @@ pub record AreFaceted {A : Type 0} (F : ℕ → Option Session) (f : Facets A) :
   pub by_address_ipv6 : IsGrouped (rows_under (masked true false true false) F) (groups_of f.by_address_ipv6)
   pub by_identifier_ipv6 : IsGrouped (rows_under (masked false true true false) F) (groups_of f.by_identifier_ipv6)
   pub by_all : IsGrouped (rows_under (masked true true true false) F) (groups_of f.by_all)
-  pub by_id : IsGrouped (id_rows F) (linked facet.Id f.by_id f.links)
+  pub by_id : IsGrouped (id_buckets f.buckets F) (chained facet.Id f.by_id f.links)
+  pub by_whole : IsGrouped (whole_buckets f.buckets F) (chained facet.Whole f.by_whole f.links)
 
 -- the octets are the row of a session by some of its parts
-abbrev pub HasText : {A : Type 0} → Option (List ℕ) → Option (Vec ℕ A) → Type 0
-HasText text row = option_map (λ r. r.items) row ≡ text
-
 abbrev pub HasRow : {A : Type 0} → Mask → Session → Option (Vec ℕ A) → Type 0
-HasRow mask s row = HasText (row_under mask s) row
+HasRow mask s row = option_map (λ r. r.items) row ≡ row_under mask s
 
 pub record HasFacetRows {A : Type 0} (s : Session) (rows : FacetRows A) : Type 0 where
   pub by_peer : HasRow (masked false false false false) s rows.by_peer
@@ -54,7 +58,11 @@ pub record HasFacetRows {A : Type 0} (s : Session) (rows : FacetRows A) : Type 0
   pub by_address_ipv6 : HasRow (masked true false true false) s rows.by_address_ipv6
   pub by_identifier_ipv6 : HasRow (masked false true true false) s rows.by_identifier_ipv6
   pub by_all : HasRow (masked true true true false) s rows.by_all
-  pub by_id : HasText (id_row s) rows.by_id
+
+-- these are a session's buckets
+pub record ArePlaces (b : Buckets) (s : Session) (places : Places) : Type 0 where
+  pub whole : places.whole ≡ whole_bucket b s
+  pub id : places.id ≡ id_bucket b s
 
 -- a ticket behind all others has this session now
 pub record ComesIn (F G : ℕ → Option Session) (t : ℕ) (s : Session) : Type 0 where
@@ -74,6 +82,7 @@ pub record FacetsHaveRoom {A : Type 0} (n : ℕ) (f : Facets A) : Type 0 where
   pub by_identifier_ipv6 : HasRoom n f.by_identifier_ipv6
   pub by_all : HasRoom n f.by_all
   pub by_id : n ≤ spare f.by_id
+  pub by_whole : n ≤ spare f.by_whole
 
 -- the ends of the groups in which sessions are found by the names that are asked for
 abbrev pub facet_by :

@@ -4,6 +4,7 @@ use Rattle.std.specs.Cmp.Lexicographic.{pointwise}
 use Rattle.indexmap.specs.IndexMap as map
 use Rattle.indexmap.specs.IndexMap.{IndexMap, spare}
 use Rattle.roam_sessions.specs.Kept.{kept_session}
+use Rattle.roam_sessions.specs.Private.Buckets.{in_bucket}
 use Rattle.roam_sessions.specs.Private.Groups.{PlainGroups}
 use Rattle.roam_sessions.specs.Private.Links.{beside_of, is_facet}
 use Rattle.roam_sessions.specs.Sessions.{Session}
@@ -23,9 +24,9 @@ row_at m row = map.get_by (λ k. pointwise nat_eq row k.octets.items) m
 abbrev pub ends_at : {Z H : Type 0} → IndexMap (KeptRow Z) Ends H → List ℕ → Option Ends
 ends_at m = row_at m
 
--- the number of a row
-abbrev pub number_at : {Z H : Type 0} → IndexMap (KeptRow Z) ℕ H → List ℕ → Option ℕ
-number_at m = row_at m
+-- the ends of the group of a bucket
+abbrev pub ends_by : {H : Type 0} → IndexMap ℕ Ends H → ℕ → Option Ends
+ends_by m bucket = map.get nat_eq m bucket
 
 -- the neighbours of a number
 abbrev pub beside_at : {H : Type 0} → IndexMap ℕ Beside H → ℕ → Option Beside
@@ -41,6 +42,10 @@ linked_at facet m t = option_map (beside_of facet) (links_at m t)
 -- the groups of a facet
 abbrev pub linked : {Z H I : Type 0} → Facet → IndexMap (KeptRow Z) Ends H → IndexMap ℕ Links I → PlainGroups
 linked facet ends links = record { ends = ends_at ends; beside = linked_at facet links }
+
+-- the groups of buckets
+abbrev pub chained : {H I : Type 0} → Facet → IndexMap ℕ Ends H → IndexMap ℕ Links I → PlainGroups
+chained facet ends links = record { ends = in_bucket (ends_by ends); beside = linked_at facet links }
 
 -- the neighbours in the groups of all other facets stay
 abbrev pub OthersStay : {H : Type 0} → Facet → IndexMap ℕ Links H → IndexMap ℕ Links H → Type 0

@@ -3,9 +3,9 @@ use Rattle.std.specs.Prelude.{◌≡◌, ℕ, ◌+◌, ◌<◌, ◌≤◌, List,
 use Rattle.indexmap.specs.IndexMap.{index_map_len, spare}
 use Rattle.roam_wire.specs.Numbered.{tickets_end}
 use Rattle.roam_sessions.specs.Facets.{AreFaceted, FacetsHaveRoom}
-use Rattle.roam_sessions.specs.Maps.{number_at, session_of}
+use Rattle.roam_sessions.specs.Maps.{session_of}
 use Rattle.roam_sessions.specs.Private.Row.{whole_row}
-use Rattle.roam_sessions.specs.Private.Tickets.{IsNoted, all_listed}
+use Rattle.roam_sessions.specs.Private.Tickets.{all_listed}
 use Rattle.roam_sessions.specs.Sessions.{Session}
 use Rattle.roam_sessions.specs.declared.chain.Chain.{Chain}
 
@@ -33,13 +33,11 @@ pub record AreTickets (F : ℕ → Option Session) (next : ℕ) : Type 0 where
 -- there is room for so many sessions more
 pub record HaveRoom {A : Type 0} (n : ℕ) (c : Chain A) : Type 0 where
   pub by_ticket : n ≤ spare c.by_ticket
-  pub whole : n ≤ spare c.whole
   pub of_peer : FacetsHaveRoom n c.of_peer
 
 -- a chain's parts fit each other, and what room was made is there, and tickets that are left
 pub record IsSound {A : Type 0} (c : Chain A) : Type 0 where
   pub tickets : AreTickets (session_at c) c.next
-  pub whole : IsNoted (whole_rows (session_at c)) (number_at c.whole)
   pub of_peer : AreFaceted (session_at c) c.of_peer
   pub count : length (sessions_of c) ≡ session_count c
   pub room : HaveRoom c.spare c

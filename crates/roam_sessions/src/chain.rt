@@ -17,8 +17,6 @@ use crate::facets::Facets;
 use crate::open_session::NewSession;
 use crate::packed_session::OpenSession;
 use crate::parts::SessionParts;
-use crate::row::Row;
-use crate::wholes::{Wholes, forget_number, note_number, number_of};
 use indexmap::IndexMap;
 use roam_random::HashKey;
 use roam_wire::NoMemory;
@@ -32,7 +30,6 @@ pub(crate) type ByTicket<A> = IndexMap<u64, OpenSession<A>, BuildHasherDefault<F
 /// are, by the names of their access servers, and by the id.
 pub(crate) struct Chain<A: Allocator> {
     pub(crate) by_ticket: ByTicket<A>,
-    pub(crate) whole: Wholes<A>,
     pub(crate) of_peer: Facets<A>,
     /// The ticket of the session that is opened next.
     pub(crate) next: u64,
@@ -44,13 +41,11 @@ impl<A: Allocator> Drop for Chain<A> {
     fn drop(self) {
         let Self {
             by_ticket,
-            whole,
             of_peer,
             next: _,
             spare: _,
         } = self;
         drop(by_ticket);
-        drop(whole);
         drop(of_peer);
     }
 }
@@ -78,15 +73,14 @@ fn take<A: Allocator + Copy>(map: &mut ByTicket<A>, ticket: u64) -> OpenSession<
 }
 
 impl<A: Allocator + Copy> Chain<A> {
-    /// Makes a chain without sessions. Takes no memory.
-    pub(crate) fn new(alloc: A, key: HashKey) -> Chain<A>
+    /// Makes a chain without sessions, for at most so many. Takes no memory.
+    pub(crate) fn new(alloc: A, key: HashKey, limit: u32) -> Chain<A>
         ensures sound { IsSound result }
         ensures empty { sessions_of result ≡ [] }
     {
         Chain {
             by_ticket: IndexMap::new(alloc),
-            whole: IndexMap::with_hasher(alloc, key),
-            of_peer: Facets::new(alloc, key),
+            of_peer: Facets::new(alloc, key, limit),
             next: 0,
             spare: 0,
         }
@@ -97,20 +91,6 @@ impl<A: Allocator + Copy> Chain<A> {
         ensures { result ≡ session_count self.now }
     {
         self.by_ticket.len()
-    }
-
-    /// Finds the ticket of a session.
-    pub(crate) fn find(&self, session: SessionRef<'_>) -> Option<u64>
-        ensures { IsSound self.now → IsTicketOf (shown_session session.entry) (session_at self.now) result }
-    {
-        number_of(&self.whole, Row::of(session.asked()).as_slice())
-    }
-
-    /// Finds the ticket of a session that is to be opened, where it is there: by the row that it has.
-    pub(crate) fn find_new(&self, new: &NewSession<A>) -> Option<u64>
-        ensures { IsSound self.now → IsTicketOf (kept_session new.now.session) (session_at self.now) result }
-    {
-        number_of(&self.whole, new.whole.as_slice())
     }
 
     /// Makes room for one session more. No session changes. There is none once the tickets are used
@@ -133,7 +113,6 @@ impl<A: Allocator + Copy> Chain<A> {
             return Err(NoMemory);
         }
         self.by_ticket.reserve(1)?;
-        self.whole.reserve(1)?;
         self.of_peer.reserve()?;
         self.spare = 1;
         Ok(())
@@ -153,9 +132,9 @@ impl<A: Allocator + Copy> Chain<A> {
         ensures count { session_count self.new ≡ session_count self.old + 1 }
     {
         let ticket = self.next;
+        let places = self.of_peer.buckets.places(new.session.lend());
         put(&mut self.by_ticket, ticket, new.session);
-        note_number(&mut self.whole, new.whole, ticket);
-        self.of_peer.append(ticket, new.of_peer);
+        self.of_peer.append(ticket, new.of_peer, places);
         self.next = ticket + 1;
         self.spare -= 1;
     }
@@ -171,7 +150,6 @@ impl<A: Allocator + Copy> Chain<A> {
         ensures room { self.new.spare ≡ self.old.spare }
     {
         let session = take(&mut self.by_ticket, ticket);
-        forget_number(&mut self.whole, Row::of(session.lend().asked()).as_slice());
         self.of_peer.remove(ticket, session.lend());
     }
 

@@ -1,7 +1,7 @@
 //! The sessions of a peer by the names of their access servers: by none of them, by some, by all; and by their ids.
 
 ghost use Rattle.std.specs.Prelude.{◌≡◌, ℕ, ◌+◌, List, Option, None, OnOk, false, filter, is_some, length, option_map};
-ghost use Rattle.roam_sessions.specs.Facets.{AreFaceted, ComesIn, FacetsHaveRoom, HasFacetRows, facet_of};
+ghost use Rattle.roam_sessions.specs.Facets.{AreFaceted, ArePlaces, ComesIn, FacetsHaveRoom, HasFacetRows, facet_of};
 ghost use Rattle.roam_sessions.specs.Private.Groups.{Goes, IsGrouped, IsLargest};
 ghost use Rattle.roam_sessions.specs.Private.Row.{row_text};
 ghost use Rattle.roam_sessions.specs.Private.Tickets.{IsOneOf, NoneBefore, all_listed};
@@ -12,6 +12,9 @@ ghost use Rattle.roam_sessions.specs.declared.links.Facet.TheVariants as facet;
 ghost use Rattle.roam_wire.specs.Numbered.{PutsAt};
 
 use crate::asked::{AskedRef, SessionRef};
+use crate::bucket_ends::{BucketEnds, reserve_buckets};
+use crate::bucketed::{enter_bucket, leave_bucket};
+use crate::buckets::{Buckets, Places};
 use crate::ends::{GroupEnds, count_in, oldest_in, oldest_of_largest, reserve_ends};
 use crate::groups::Groups;
 use crate::linked::{join, part};
@@ -24,7 +27,7 @@ use roam_wire::NoMemory;
 use std::alloc::Allocator;
 
 /// Tickets of sessions in groups: by the peer, by the peer and some of the access server's names, where a session has
-/// them, and by the peer and the id, where a session has any of those names.
+/// them; by the bucket of the peer and the id, and by the bucket of all parts.
 pub(crate) struct Facets<A: Allocator> {
     /// The neighbours of each ticket in the groups that have ends here. Few sessions have a NAS-IPv6-Address, so the
     /// groups by that one keep their own.
@@ -37,7 +40,9 @@ pub(crate) struct Facets<A: Allocator> {
     pub(crate) by_address_ipv6: Groups<A>,
     pub(crate) by_identifier_ipv6: Groups<A>,
     pub(crate) by_all: Groups<A>,
-    pub(crate) by_id: GroupEnds<A>,
+    pub(crate) by_id: BucketEnds<A>,
+    pub(crate) by_whole: BucketEnds<A>,
+    pub(crate) buckets: Buckets,
 }
 
 // By hand, so that a proof sees one call wherever they end, and not each of their maps.
@@ -54,6 +59,8 @@ impl<A: Allocator> Drop for Facets<A> {
             by_identifier_ipv6,
             by_all,
             by_id,
+            by_whole,
+            buckets: _,
         } = self;
         drop(links);
         drop(by_peer);
@@ -65,6 +72,7 @@ impl<A: Allocator> Drop for Facets<A> {
         drop(by_identifier_ipv6);
         drop(by_all);
         drop(by_id);
+        drop(by_whole);
     }
 }
 
@@ -83,8 +91,8 @@ impl<A: Allocator + Copy> Groups<A> {
 }
 
 impl<A: Allocator + Copy> Facets<A> {
-    /// Makes the groups without sessions. Takes no memory.
-    pub(crate) fn new(alloc: A, key: HashKey) -> Facets<A>
+    /// Makes the groups without sessions, for at most so many. Takes no memory.
+    pub(crate) fn new(alloc: A, key: HashKey, limit: u32) -> Facets<A>
         ensures { (F : ℕ → Option Session) → ((t : ℕ) → F t ≡ None) → AreFaceted F result }
     {
         Facets {
@@ -97,7 +105,9 @@ impl<A: Allocator + Copy> Facets<A> {
             by_address_ipv6: Groups::new(alloc, key),
             by_identifier_ipv6: Groups::new(alloc, key),
             by_all: Groups::new(alloc, key),
-            by_id: IndexMap::with_hasher(alloc, key),
+            by_id: IndexMap::new(alloc),
+            by_whole: IndexMap::new(alloc),
+            buckets: Buckets::for_limit(key, limit),
         }
     }
 
@@ -112,18 +122,19 @@ impl<A: Allocator + Copy> Facets<A> {
         reserve_ends(&mut self.by_address)?;
         reserve_ends(&mut self.by_identifier)?;
         reserve_ends(&mut self.by_both)?;
-        reserve_ends(&mut self.by_id)?;
+        reserve_buckets(&mut self.by_id)?;
+        reserve_buckets(&mut self.by_whole)?;
         self.by_ipv6.reserve()?;
         self.by_address_ipv6.reserve()?;
         self.by_identifier_ipv6.reserve()?;
         self.by_all.reserve()
     }
 
-    /// Puts a session with its rows last, where there is room. Takes no memory.
-    pub(crate) fn append(&mut self, ticket: u64, rows: FacetRows<A>)
+    /// Puts a session with its rows and in its buckets last, where there is room. Takes no memory.
+    pub(crate) fn append(&mut self, ticket: u64, rows: FacetRows<A>, places: Places)
         requires { FacetsHaveRoom 1 self.old }
         ensures faceted { (F G : ℕ → Option Session) (s : Session) → AreFaceted F self.old
-            → HasFacetRows s rows → ComesIn F G ticket s → AreFaceted G self.new }
+            → HasFacetRows s rows → ArePlaces self.old.buckets s places → ComesIn F G ticket s → AreFaceted G self.new }
         ensures room { (n : ℕ) → FacetsHaveRoom (n + 1) self.old → FacetsHaveRoom n self.new }
     {
         begin(&mut self.links, ticket);
@@ -155,12 +166,19 @@ impl<A: Allocator + Copy> Facets<A> {
             ticket,
             rows.by_both,
         );
-        join(
+        enter_bucket(
             &mut self.by_id,
             &mut self.links,
             Facet::Id,
             ticket,
-            rows.by_id,
+            places.id,
+        );
+        enter_bucket(
+            &mut self.by_whole,
+            &mut self.links,
+            Facet::Whole,
+            ticket,
+            places.whole,
         );
         self.by_ipv6.append(ticket, rows.by_ipv6);
         self.by_address_ipv6.append(ticket, rows.by_address_ipv6);
@@ -208,12 +226,20 @@ impl<A: Allocator + Copy> Facets<A> {
             ticket,
             by_both,
         );
-        part(
+        let places = self.buckets.places(session);
+        leave_bucket(
             &mut self.by_id,
             &mut self.links,
             Facet::Id,
             ticket,
-            session.by_id(),
+            places.id,
+        );
+        leave_bucket(
+            &mut self.by_whole,
+            &mut self.links,
+            Facet::Whole,
+            ticket,
+            places.whole,
         );
         end(&mut self.links, ticket);
         self.by_ipv6

@@ -14,7 +14,7 @@ use std::alloc::Allocator;
 use std::hash::{BuildHasherDefault, FoldHasher};
 
 /// The parts by which sessions are grouped most: the peer, the peer and the address or the identifier of the access
-/// server or both, and the peer and the id.
+/// server or both; and the buckets of the peer and the id, and of all parts.
 #[derive(Clone, Copy)]
 pub(crate) enum Facet {
     Peer,
@@ -22,6 +22,7 @@ pub(crate) enum Facet {
     Identifier,
     Both,
     Id,
+    Whole,
 }
 
 /// The next older and the next newer number of a group; 2^64 - 1 where there is none.
@@ -39,6 +40,7 @@ pub(crate) struct Links {
     pub(crate) identifier: Link,
     pub(crate) both: Link,
     pub(crate) id: Link,
+    pub(crate) whole: Link,
 }
 
 /// The neighbours of each number. Nobody outside picks these numbers.
@@ -72,6 +74,7 @@ fn link_of(links: Links, facet: Facet) -> Link
         Facet::Identifier => links.identifier,
         Facet::Both => links.both,
         Facet::Id => links.id,
+        Facet::Whole => links.whole,
     }
 }
 
@@ -85,6 +88,7 @@ fn with_link(links: Links, facet: Facet, link: Link) -> Links
         identifier,
         both,
         id,
+        whole,
     } = links;
     match facet {
         Facet::Peer => Links {
@@ -93,6 +97,7 @@ fn with_link(links: Links, facet: Facet, link: Link) -> Links
             identifier,
             both,
             id,
+            whole,
         },
         Facet::Address => Links {
             peer,
@@ -100,6 +105,7 @@ fn with_link(links: Links, facet: Facet, link: Link) -> Links
             identifier,
             both,
             id,
+            whole,
         },
         Facet::Identifier => Links {
             peer,
@@ -107,6 +113,7 @@ fn with_link(links: Links, facet: Facet, link: Link) -> Links
             identifier: link,
             both,
             id,
+            whole,
         },
         Facet::Both => Links {
             peer,
@@ -114,6 +121,7 @@ fn with_link(links: Links, facet: Facet, link: Link) -> Links
             identifier,
             both: link,
             id,
+            whole,
         },
         Facet::Id => Links {
             peer,
@@ -121,6 +129,15 @@ fn with_link(links: Links, facet: Facet, link: Link) -> Links
             identifier,
             both,
             id: link,
+            whole,
+        },
+        Facet::Whole => Links {
+            peer,
+            address,
+            identifier,
+            both,
+            id,
+            whole: link,
         },
     }
 }
@@ -179,6 +196,7 @@ pub(crate) fn begin<A: Allocator + Copy>(map: &mut LinkMap<A>, number: u64)
             identifier: none,
             both: none,
             id: none,
+            whole: none,
         },
     );
 }

@@ -24,6 +24,7 @@ link_of facet.Address l = l.address
 link_of facet.Identifier l = l.identifier
 link_of facet.Both l = l.both
 link_of facet.Id l = l.id
+link_of facet.Whole l = l.whole
 
 abbrev pub with_link : Facet → Link → Links → Links
 with_link facet.Peer x l = record l { peer = x }
@@ -31,6 +32,7 @@ with_link facet.Address x l = record l { address = x }
 with_link facet.Identifier x l = record l { identifier = x }
 with_link facet.Both x l = record l { both = x }
 with_link facet.Id x l = record l { id = x }
+with_link facet.Whole x l = record l { whole = x }
 
 abbrev pub beside_of : Facet → Links → Beside
 beside_of facet l = shown_link (link_of facet l)
@@ -46,4 +48,5 @@ is_facet facet.Address facet.Address = true
 is_facet facet.Identifier facet.Identifier = true
 is_facet facet.Both facet.Both = true
 is_facet facet.Id facet.Id = true
+is_facet facet.Whole facet.Whole = true
 is_facet _ _ = false

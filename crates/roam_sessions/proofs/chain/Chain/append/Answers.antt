@@ -2,14 +2,13 @@ use Rattle.std.proofs.Common.{◌≡◌, ℕ, ◌+◌, ◌-◌, ◌<◌, List, [
 use Rattle.roam_wire.specs.Numbered.{tickets_end}
 use Rattle.roam_sessions.specs.Facets.{ComesIn, FacetsHaveRoom}
 use Rattle.roam_sessions.specs.Kept.{kept_session}
-use Rattle.roam_sessions.specs.Maps.{number_at, session_of}
+use Rattle.roam_sessions.specs.Maps.{session_of}
+use Rattle.roam_sessions.specs.Private.Buckets.{id_bucket, whole_bucket}
 use Rattle.roam_sessions.specs.Private.Tickets.{all_listed}
 use Rattle.roam_sessions.specs.Sessions.{Session}
-use Rattle.roam_sessions.specs.Stands.{session_at, whole_rows}
+use Rattle.roam_sessions.specs.Stands.{session_at}
 use Rattle.roam_sessions.proofs.ListedLemmas.{listed-last}
 use Rattle.roam_sessions.proofs.SoundLemmas.{tickets-come}
-use Rattle.roam_sessions.proofs.NotedLemmas.{noted-comes}
-use Rattle.roam_sessions.proofs.WholeLemmas.{comes-whole, row-of-session}
 use Rattle.roam_sessions.proofs.chain.Chain.append.Goals as goal
 
 pub overflow_add-self : goal.overflow_add-self
@@ -25,6 +24,7 @@ returns-clause-sound g c =
     let F = session_at c.args.self.now in
     let G = session_of c.put.new.map in
     let s = kept_session c.args.new.session in
+    let b = c.args.self.now.of_peer.buckets in
     let next = c.args.self.now.next in
     let sound = c.requires.sound in
     let spare = less c.args.self.now.spare c.requires.room in
@@ -38,18 +38,15 @@ returns-clause-sound g c =
     record {
       tickets = tickets-come F G next s sound.tickets c.requires.absent c.put.ensures.puts
           (omega (arith, sound.ticket_room, c.requires.room));
-      whole = noted-comes (whole_rows F) (whole_rows G) (number_at c.args.self.now.whole)
-          (number_at c.note_number.new.map) next c.args.new.whole.items sound.whole
-          (comes-whole F G next s _ c.args.new.whole_is comes)
-          (λ u is. c.requires.absent u (row-of-session F u s
-          (is ∙ ap (λ (l : List ℕ). Some l) c.args.new.whole_is)))
-          c.note_number.ensures.puts;
-      of_peer = c.append.ensures.faceted F G s sound.of_peer c.args.new.of_peer_are comes;
+      of_peer = c.append.ensures.faceted F G s sound.of_peer c.args.new.of_peer_are
+          (record {
+            whole = c.places-places.ensures.whole ∙ ap (whole_bucket b) c.lend.ensures;
+            id = c.places-places.ensures.id ∙ ap (id_bucket b) c.lend.ensures;
+          }) comes;
       count = ap (λ (l : List Session). length l) listed ∙ length-append (all_listed F) (s ∷ [])
           ∙ omega (arith, sound.count, c.put.ensures.len);
       room = record {
         by_ticket = omega (arith, sound.room.by_ticket, c.put.ensures.room, c.requires.room);
-        whole = omega (arith, sound.room.whole, c.note_number.ensures.room, c.requires.room);
         of_peer = c.append.ensures.room (c.args.self.now.spare - 1)
             (subst (λ (n : ℕ). FacetsHaveRoom n c.args.self.now.of_peer) spare sound.room.of_peer);
       };
@@ -64,10 +61,6 @@ returns-clause-sessions g c =
 
 pub put-requires-clause-free : goal.put-requires-clause-free
 put-requires-clause-free g c = c.requires.sound.tickets.given c.args.self.now.next (omega arith)
-
--- room for one is there where there is some
-pub note_number-requires : goal.note_number-requires
-note_number-requires g c = omega (arith, c.requires.sound.room.whole, c.requires.room)
 
 pub append-requires : goal.append-requires
 append-requires g c =
@@ -96,4 +89,5 @@ append-requires g c =
         beside = omega (arith, room.by_all.beside, some);
       };
       by_id = omega (arith, room.by_id, some);
+      by_whole = omega (arith, room.by_whole, some);
     }

@@ -1,14 +1,11 @@
 use Rattle.std.proofs.Common.{Some, sym, ap, ◌∙◌, arith}
 use Rattle.roam_wire.specs.Numbered.{tickets_end}
 use Rattle.roam_sessions.specs.Kept.{kept_session}
-use Rattle.roam_sessions.specs.Maps.{number_at, session_of}
-use Rattle.roam_sessions.specs.Private.Row.{row_text, whole_row}
+use Rattle.roam_sessions.specs.Maps.{session_of}
 use Rattle.roam_sessions.specs.Sessions.{Session}
-use Rattle.roam_sessions.specs.Stands.{session_at, whole_rows}
+use Rattle.roam_sessions.specs.Stands.{session_at}
 use Rattle.roam_sessions.proofs.ListedLemmas.{length-gone}
 use Rattle.roam_sessions.proofs.SoundLemmas.{given-out, tickets-go}
-use Rattle.roam_sessions.proofs.NotedLemmas.{noted-goes}
-use Rattle.roam_sessions.proofs.WholeLemmas.{goes-whole}
 use Rattle.roam_sessions.proofs.chain.Chain.remove.Goals as goal
 
 pub returns-clause-sound : goal.returns-clause-sound
@@ -24,16 +21,11 @@ returns-clause-sound g c =
     (let k = given-out F c.args.self.now.next sound.tickets t s at in omega (arith, k)) in
     record {
       tickets = tickets-go F G c.args.self.now.next t sound.tickets goes;
-      whole = noted-goes (whole_rows F) (whole_rows G) (number_at c.args.self.now.whole)
-          (number_at c.forget_number.new.map) t _ sound.whole
-          (goes-whole F G t s _ (c.as_slice.ensures ∙ c.of.ensures ∙ ap row_text c.asked.ensures
-          ∙ ap (λ (x : Session). whole_row x) c.lend.ensures) at goes) c.forget_number.ensures.puts;
       of_peer = c.remove.ensures.faceted F G sound.of_peer
-          (at ∙ ap (λ (x : Session). Some x) (sym c.lend-2.ensures)) goes;
+          (at ∙ ap (λ (x : Session). Some x) (sym c.lend.ensures)) goes;
       count = omega (arith, less, sound.count, c.take-session.ensures.len);
       room = record {
         by_ticket = omega (arith, sound.room.by_ticket, c.take-session.ensures.room);
-        whole = omega (arith, sound.room.whole, c.forget_number.ensures.room);
         of_peer = c.remove.ensures.room c.args.self.now.spare sound.room.of_peer;
       };
       ticket_room = sound.ticket_room;

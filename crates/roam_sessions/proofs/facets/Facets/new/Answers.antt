@@ -1,11 +1,13 @@
 use Rattle.std.proofs.Common.{◌≡◌, ℕ, true, false, List, Option, None, refl, sym, ap, subst}
 use Rattle.std.specs.Prelude.{option_and_then}
-use Rattle.roam_sessions.specs.Facets.{id_rows, masked, rows_under}
-use Rattle.roam_sessions.specs.Maps.{linked}
+use Rattle.roam_sessions.specs.Facets.{id_buckets, masked, rows_under, whole_buckets}
+use Rattle.roam_sessions.specs.Maps.{chained, ends_by, linked}
+use Rattle.roam_sessions.specs.Private.Buckets.{id_text, whole_text}
 use Rattle.roam_sessions.specs.Private.Groups.{AreEndsOf, IsGrouped, PlainGroups, if_row}
-use Rattle.roam_sessions.specs.Private.Row.{id_row, row_under}
+use Rattle.roam_sessions.specs.Private.Row.{row_under}
 use Rattle.roam_sessions.specs.declared.ends.Ends.{Ends}
 use Rattle.roam_sessions.specs.declared.links.Facet.TheVariants as facet
+use Rattle.roam_sessions.proofs.BucketLemmas.{none-in-bucket}
 use Rattle.roam_sessions.proofs.facets.Facets.new.Goals as goal
 
 -- no number is in a group, and no group has ends
@@ -35,6 +37,10 @@ returns g c = λ F none. record {
       (λ t. ap (option_and_then (row_under (masked false true true false))) (none t));
   by_all = c.new-5.ensures (rows_under (masked true true true false) F)
       (λ t. ap (option_and_then (row_under (masked true true true false))) (none t));
-  by_id = begun (id_rows F) (linked facet.Id c.with_hasher-5.result c.new.result)
-      (λ t. ap (option_and_then id_row) (none t)) (λ row. rw c.with_hasher-5.ensures.empty refl);
+  by_id = begun (id_buckets c.for_limit.result F) (chained facet.Id c.new-6.result c.new.result)
+      (λ t. ap (option_and_then (id_text c.for_limit.result)) (none t))
+      (none-in-bucket (ends_by c.new-6.result) (λ b. rw c.new-6.ensures.empty refl));
+  by_whole = begun (whole_buckets c.for_limit.result F) (chained facet.Whole c.new-7.result c.new.result)
+      (λ t. ap (option_and_then (whole_text c.for_limit.result)) (none t))
+      (none-in-bucket (ends_by c.new-7.result) (λ b. rw c.new-7.ensures.empty refl));
 }
