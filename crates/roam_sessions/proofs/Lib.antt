@@ -27,6 +27,7 @@ pub mod GrownLemmas
 pub mod GrownFacetLemmas
 pub mod LinkLemmas
 pub mod LinkedLemmas
+pub mod StayLemmas
 pub mod OneSessionLemmas
 pub mod MapLemmas
 pub mod PackedLemmas

@@ -5,7 +5,7 @@ use Rattle.std.proofs.lemmas.Bool.{cases_Bool, cases_eq}
 use Rattle.std.proofs.lemmas.Bool.Decides.{nat_tests}
 use Rattle.roam_wire.specs.Numbered.{PutsAt}
 use Rattle.roam_sessions.specs.Private.Groups.{is_at, with_newer_at, with_older_at}
-use Rattle.roam_sessions.specs.Private.Links.{beside_of, is_facet, link_of, no_beside, no_number, shown_link, with_link, written}
+use Rattle.roam_sessions.specs.Private.Links.{beside_of, is_facet, link_of, no_beside, no_links, no_number, shown_link, with_link, written}
 use Rattle.roam_sessions.specs.declared.links.Facet.{Facet}
 use Rattle.roam_sessions.specs.declared.links.Facet.TheVariants as facet
 use Rattle.roam_sessions.specs.declared.links.Link.{Link}
@@ -91,21 +91,14 @@ link-other facet.Whole facet.Both h x l = refl
 link-other facet.Whole facet.Id h x l = refl
 link-other facet.Whole facet.Whole h x l = absurd (cc h)
 
-pub no-links : (facet : Facet) → option_map (beside_of facet) (Some (record {
-  peer = record { older = 18446744073709551615; newer = 18446744073709551615 };
-  address = record { older = 18446744073709551615; newer = 18446744073709551615 };
-  identifier = record { older = 18446744073709551615; newer = 18446744073709551615 };
-  both = record { older = 18446744073709551615; newer = 18446744073709551615 };
-  id = record { older = 18446744073709551615; newer = 18446744073709551615 };
-  whole = record { older = 18446744073709551615; newer = 18446744073709551615 };
-})) ≡ Some no_beside
+pub no-beside : (facet : Facet) → option_map (beside_of facet) (Some no_links) ≡ Some no_beside
 unfolding no_number
-no-links facet.Peer = refl
-no-links facet.Address = refl
-no-links facet.Identifier = refl
-no-links facet.Both = refl
-no-links facet.Id = refl
-no-links facet.Whole = refl
+no-beside facet.Peer = refl
+no-beside facet.Address = refl
+no-beside facet.Identifier = refl
+no-beside facet.Both = refl
+no-beside facet.Id = refl
+no-beside facet.Whole = refl
 
 -- a number that isn't the one that is given keeps its neighbours
 pub at-other : (n u : ℕ) → u ≢ n → is_at (Some n) u ≡ false

@@ -87,21 +87,6 @@ row-is p q e =
     asked-is p q (number-of p.peer q.peer high low) addresses.0 identifiers.0 ipv6s.0
     (part-is p.id q.id ipv6s.1)
 
--- a session's row by all that it is, is its own
-id_of : Option (List ℕ) → List ℕ
-id_of None = []
-id_of (Some id) = id
-
-named_by : Asked → Session
-named_by q = record { peer = q.peer; nas = q.nas; id = id_of q.id }
-
-session-is : (a b : Session) → asked_for a ≡ asked_for b → a ≡ b
-unfolding id_of named_by
-session-is a b same = ap named_by same
-
-pub whole-is : (a b : Session) → whole_row a ≡ whole_row b → a ≡ b
-whole-is a b e = session-is a b (row-is (asked_for a) (asked_for b) e)
-
 -- a part agrees just where it is the one that is chosen
 chosen : Option (List ℕ) → Option (List ℕ) → Option (List ℕ)
 chosen asks own = if is_some asks then own else None

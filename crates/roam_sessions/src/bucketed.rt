@@ -2,20 +2,21 @@
 
 ghost use Rattle.std.specs.Prelude.{◌≡◌, ℕ, ◌<◌, ◌≤◌, ◌+◌, List, Option, Some};
 ghost use Rattle.indexmap.specs.IndexMap.{spare};
-ghost use Rattle.roam_sessions.specs.Maps.{OthersStay, chained, linked_at};
+ghost use Rattle.roam_sessions.specs.Maps.{OthersStay, SessionsStay, chained, linked_at};
 ghost use Rattle.roam_sessions.specs.Private.Buckets.{bucket_text};
 ghost use Rattle.roam_sessions.specs.Private.Groups.{Comes, Goes, IsGrouped};
 ghost use Rattle.roam_sessions.specs.Private.Links.{no_beside};
 
 use crate::bucket_ends::{BucketEnds, ends_in, note_in, set_in};
 use crate::ends::{ends_behind, ends_left, newest_of};
-use crate::links::{Facet, LinkMap, beside_in, link_newer, link_older};
+use crate::links::{Facet, beside_in, link_newer, link_older};
+use crate::session_map::SessionMap;
 use std::alloc::Allocator;
 
 /// Puts a number last in the group of a bucket, where there is room. It has no neighbours there yet. Takes no memory.
 pub(crate) fn enter_bucket<A: Allocator + Copy>(
     ends: &mut BucketEnds<A>,
-    links: &mut LinkMap<A>,
+    links: &mut SessionMap<A>,
     facet: Facet,
     number: u64,
     bucket: u32,
@@ -26,7 +27,7 @@ pub(crate) fn enter_bucket<A: Allocator + Copy>(
         → Comes f g number (Some (bucket_text bucket)) → IsGrouped g (chained facet ends.new links.new) }
     ensures others { OthersStay facet links.old links.new }
     ensures room { spare ends.old ≤ spare ends.new + 1 }
-    ensures links_room { spare links.new ≡ spare links.old }
+    ensures stay { SessionsStay links.old links.new }
 {
     let ends_now = ends_in(ends, bucket);
     let older = newest_of(ends_now);
@@ -38,7 +39,7 @@ pub(crate) fn enter_bucket<A: Allocator + Copy>(
 /// Takes a number out of the group of a bucket: its neighbours are each other's from now on.
 pub(crate) fn leave_bucket<A: Allocator + Copy>(
     ends: &mut BucketEnds<A>,
-    links: &mut LinkMap<A>,
+    links: &mut SessionMap<A>,
     facet: Facet,
     number: u64,
     bucket: u32,
@@ -47,7 +48,7 @@ pub(crate) fn leave_bucket<A: Allocator + Copy>(
         → Goes f g number (Some (bucket_text bucket)) → IsGrouped g (chained facet ends.new links.new) }
     ensures others { OthersStay facet links.old links.new }
     ensures room { spare ends.old ≤ spare ends.new }
-    ensures links_room { spare links.new ≡ spare links.old }
+    ensures stay { SessionsStay links.old links.new }
 {
     let Some(ends_now) = ends_in(ends, bucket) else {
         return;

@@ -15,21 +15,18 @@ ghost use Rattle.roam_wire.specs.Numbered.{PutsAt};
 use crate::asked::{AskedRef, SessionRef};
 use crate::facets::Facets;
 use crate::open_session::NewSession;
-use crate::packed_session::OpenSession;
 use crate::parts::SessionParts;
+use crate::session::SessionArray;
+use crate::session_map::SessionMap;
 use indexmap::IndexMap;
 use roam_random::HashKey;
 use roam_wire::NoMemory;
 use std::alloc::Allocator;
-use std::hash::{BuildHasherDefault, FoldHasher};
-
-/// The session of each ticket. Nobody outside picks tickets.
-pub(crate) type ByTicket<A> = IndexMap<u64, OpenSession<A>, BuildHasherDefault<FoldHasher>, A>;
 
 /// Sessions in the order in which they were opened. Each has a ticket, and these rise. They are found by all that they
 /// are, by the names of their access servers, and by the id.
 pub(crate) struct Chain<A: Allocator> {
-    pub(crate) by_ticket: ByTicket<A>,
+    pub(crate) by_ticket: SessionMap<A>,
     pub(crate) of_peer: Facets<A>,
     /// The ticket of the session that is opened next.
     pub(crate) next: u64,
@@ -48,28 +45,6 @@ impl<A: Allocator> Drop for Chain<A> {
         drop(by_ticket);
         drop(of_peer);
     }
-}
-
-/// Puts a session at a ticket that none has, where there is room. Takes no memory.
-fn put<A: Allocator + Copy>(map: &mut ByTicket<A>, ticket: u64, session: OpenSession<A>)
-    requires room { 0 < spare map.old }
-    requires free { session_of map.old ticket ≡ None }
-    ensures puts { PutsAt (session_of map.old) (session_of map.new) ticket (Some (kept_session session)) }
-    ensures len { index_map_len map.new ≡ index_map_len map.old + 1 }
-    ensures room { spare map.old ≤ spare map.new + 1 }
-{
-    let _old = map.insert(ticket, session).unwrap();
-}
-
-/// Takes the session of a ticket out.
-fn take<A: Allocator + Copy>(map: &mut ByTicket<A>, ticket: u64) -> OpenSession<A>
-    requires { IsSome (session_of map.old ticket) }
-    ensures was { session_of map.old ticket ≡ Some (kept_session result) }
-    ensures puts { PutsAt (session_of map.old) (session_of map.new) ticket None }
-    ensures len { index_map_len map.new + 1 ≡ index_map_len map.old }
-    ensures room { spare map.old ≤ spare map.new }
-{
-    map.swap_remove(&ticket).unwrap()
 }
 
 impl<A: Allocator + Copy> Chain<A> {
@@ -132,9 +107,7 @@ impl<A: Allocator + Copy> Chain<A> {
         ensures count { session_count self.new ≡ session_count self.old + 1 }
     {
         let ticket = self.next;
-        let places = self.of_peer.buckets.places(new.session.lend());
-        put(&mut self.by_ticket, ticket, new.session);
-        self.of_peer.append(ticket, new.of_peer, places);
+        self.of_peer.append(&mut self.by_ticket, ticket, new);
         self.next = ticket + 1;
         self.spare -= 1;
     }
@@ -149,8 +122,9 @@ impl<A: Allocator + Copy> Chain<A> {
         ensures count { session_count self.new + 1 ≡ session_count self.old }
         ensures room { self.new.spare ≡ self.old.spare }
     {
-        let session = take(&mut self.by_ticket, ticket);
-        self.of_peer.remove(ticket, session.lend());
+        let session = SessionArray::copy_of(self.session(ticket).unwrap());
+        self.of_peer
+            .remove(&mut self.by_ticket, ticket, session.lend());
     }
 
     /// Takes the oldest session of the peer that has most out; of several that have most, the oldest of all theirs.
@@ -213,7 +187,7 @@ impl<A: Allocator + Copy> Chain<A> {
         ensures { option_map shown_session result ≡ session_at self.now ticket }
     {
         match self.by_ticket.get(&ticket) {
-            Some(session) => Some(session.lend()),
+            Some(linked) => Some(linked.session.lend()),
             None => None,
         }
     }
@@ -223,7 +197,7 @@ impl<A: Allocator + Copy> Chain<A> {
         ensures { option_map shown_parts result ≡ session_at self.now ticket }
     {
         match self.by_ticket.get(&ticket) {
-            Some(session) => Some(session.parts()),
+            Some(linked) => Some(linked.session.parts()),
             None => None,
         }
     }

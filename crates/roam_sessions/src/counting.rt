@@ -44,7 +44,7 @@ impl<A: Allocator + Copy> Table<A> {
         let mut at = oldest_of(&self.chain.of_peer.by_id, bucket);
         for i in 0..count_of(&self.chain.of_peer.by_id, bucket) {
             count = count.saturating_add(self.agreeing_of(asked, at));
-            at = newer_in(&self.chain.of_peer.links, Facet::Id, at);
+            at = newer_in(&self.chain.by_ticket, Facet::Id, at);
         }
         count
     }

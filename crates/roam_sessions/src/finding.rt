@@ -1,10 +1,12 @@
-//! The session of a ledger that has a row, found in the bucket of that row.
+//! A session of a ledger, found in its bucket.
 
-ghost use Rattle.std.specs.Prelude.{◌≡◌, is_some, option_and_then};
+ghost use Rattle.std.specs.Prelude.{◌≡◌, is_some, option_and_then, option_map};
 ghost use Rattle.roam_sessions.specs.Kept.{kept_session, shown_session};
-ghost use Rattle.roam_sessions.specs.Private.Buckets.{having};
+ghost use Rattle.roam_sessions.specs.Private.Buckets.{same_at};
 ghost use Rattle.roam_sessions.specs.Private.Tickets.{IsTicketOf};
-ghost use Rattle.roam_sessions.specs.Stands.{IsSound, session_at, whole_rows};
+ghost use Rattle.roam_sessions.specs.Sessions.{same_part, same_session};
+ghost use Rattle.roam_sessions.specs.Short.{shown_short};
+ghost use Rattle.roam_sessions.specs.Stands.{IsSound, session_at};
 
 use crate::asked::SessionRef;
 use crate::bucket_ends::{count_of, oldest_of};
@@ -12,42 +14,60 @@ use crate::chain::Chain;
 use crate::links::{Facet, newer_in};
 use crate::open_session::NewSession;
 use crate::row::Row;
+use crate::short::Short;
 use std::alloc::Allocator;
 
+/// Returns whether two names are one, or neither is there.
+fn is_same_part(a: Option<Short<'_>>, b: Option<Short<'_>>) -> bool
+    ensures { result ≡ same_part (option_map shown_short a.entry) (option_map shown_short b.entry) }
+{
+    match (a, b) {
+        (None, None) => true,
+        (Some(a), Some(b)) => a.octets == b.octets,
+        _ => false,
+    }
+}
+
+/// Returns whether two sessions are one.
+fn is_same(a: SessionRef<'_>, b: SessionRef<'_>) -> bool
+    ensures { result ≡ same_session (shown_session a.entry) (shown_session b.entry) }
+{
+    a.peer == b.peer
+        && is_same_part(a.nas.address, b.nas.address)
+        && is_same_part(a.nas.identifier, b.nas.identifier)
+        && is_same_part(a.nas.ipv6, b.nas.ipv6)
+        && a.id.octets == b.id.octets
+}
+
 impl<A: Allocator + Copy> Chain<A> {
-    /// Returns whether the session of a ticket, if one is given, has this row by all that it is.
-    fn has_row(&self, ticket: Option<u64>, row: &[u8]) -> bool
-        ensures { result ≡ is_some (option_and_then (having row.now (session_at self.now)) ticket) }
+    /// Returns whether the session of a ticket, if one is given, is this one.
+    fn is_at(&self, ticket: Option<u64>, session: SessionRef<'_>) -> bool
+        ensures { result
+            ≡ is_some (option_and_then (same_at (shown_session session.entry) (session_at self.now)) ticket) }
     {
         let Some(ticket) = ticket else {
             return false;
         };
-        let Some(session) = self.session(ticket) else {
-            return false;
-        };
-        row == Row::of(session.asked()).as_slice()
-    }
-
-    /// Finds the ticket of the session that has this row by all that it is. Looks at the sessions of one bucket.
-    pub(crate) fn find_row(&self, row: &[u8]) -> Option<u64>
-        ensures { IsSound self.now → IsTicketOf row.now (whole_rows (session_at self.now)) result }
-    {
-        let bucket = self.of_peer.buckets.of(row);
-        let mut at = oldest_of(&self.of_peer.by_whole, bucket);
-        for i in 0..count_of(&self.of_peer.by_whole, bucket) {
-            if self.has_row(at, row) {
-                return at;
-            }
-            at = newer_in(&self.of_peer.links, Facet::Whole, at);
+        match self.session(ticket) {
+            Some(other) => is_same(session, other),
+            None => false,
         }
-        None
     }
 
-    /// Finds the ticket of a session.
+    /// Finds the ticket of a session. Looks at the sessions of one bucket.
     pub(crate) fn find(&self, session: SessionRef<'_>) -> Option<u64>
         ensures { IsSound self.now → IsTicketOf (shown_session session.entry) (session_at self.now) result }
     {
-        self.find_row(Row::of(session.asked()).as_slice())
+        let row = Row::of(session.asked());
+        let bucket = self.of_peer.buckets.of(row.as_slice());
+        let mut at = oldest_of(&self.of_peer.by_whole, bucket);
+        for i in 0..count_of(&self.of_peer.by_whole, bucket) {
+            if self.is_at(at, session) {
+                return at;
+            }
+            at = newer_in(&self.by_ticket, Facet::Whole, at);
+        }
+        None
     }
 
     /// Finds the ticket of a session that is to be opened, where it is there.

@@ -62,6 +62,7 @@ mod reading;
 mod row;
 mod session;
 mod session_laws;
+mod session_map;
 mod session_rows;
 mod short;
 mod short_copies;

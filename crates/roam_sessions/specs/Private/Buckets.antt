@@ -1,9 +1,8 @@
 -- The buckets of sessions, by keyed hashes of their rows (ours).
 use Rattle.std.specs.Prelude.{ℕ, ◌%◌, List, [], ◌∷◌, Option, Some, None, option_and_then, if◌then◌else◌}
-use Rattle.std.specs.Str.{bytes_eq}
 use Rattle.roam_random.specs.Keyed.{hash_of}
 use Rattle.roam_sessions.specs.Private.Row.{id_row, whole_row}
-use Rattle.roam_sessions.specs.Sessions.{Session}
+use Rattle.roam_sessions.specs.Sessions.{Session, same_session}
 use Rattle.roam_sessions.specs.declared.buckets.Buckets.{Buckets}
 
 -- the bucket of a row; of a session by its peer and its id, and by all that it is
@@ -32,9 +31,9 @@ in_bucket I [] = None
 in_bucket I (bucket ∷ []) = I bucket
 in_bucket I (bucket ∷ more ∷ rest) = None
 
--- a ticket's session, where it has this row by all that it is
-abbrev pub if_whole : List ℕ → Session → Option Session
-if_whole row s = if bytes_eq row (whole_row s) then Some s else None
+-- a ticket's session, where it is this one
+abbrev pub if_same : Session → Session → Option Session
+if_same s other = if same_session s other then Some other else None
 
-abbrev pub having : List ℕ → (ℕ → Option Session) → ℕ → Option Session
-having row F t = option_and_then (if_whole row) (F t)
+abbrev pub same_at : Session → (ℕ → Option Session) → ℕ → Option Session
+same_at s F t = option_and_then (if_same s) (F t)

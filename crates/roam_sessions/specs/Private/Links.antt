@@ -37,6 +37,17 @@ with_link facet.Whole x l = record l { whole = x }
 abbrev pub beside_of : Facet → Links → Beside
 beside_of facet l = shown_link (link_of facet l)
 
+-- no neighbours in any group
+abbrev pub no_links : Links
+no_links = record {
+  peer = record { older = 18446744073709551615; newer = 18446744073709551615 };
+  address = record { older = 18446744073709551615; newer = 18446744073709551615 };
+  identifier = record { older = 18446744073709551615; newer = 18446744073709551615 };
+  both = record { older = 18446744073709551615; newer = 18446744073709551615 };
+  id = record { older = 18446744073709551615; newer = 18446744073709551615 };
+  whole = record { older = 18446744073709551615; newer = 18446744073709551615 };
+}
+
 -- no neighbours
 abbrev pub no_beside : Beside
 no_beside = record { older = None; newer = None }

@@ -1,6 +1,6 @@
 use Rattle.std.proofs.Common.{◌≡◌, ℕ, List, length, None, refl, sym, ap, ◌∙◌, arith}
 use Rattle.roam_wire.specs.Numbered.{tickets_end}
-use Rattle.roam_sessions.specs.Maps.{session_of}
+use Rattle.roam_sessions.specs.Maps.{linked_by, session_of}
 use Rattle.roam_sessions.specs.Sessions.{Session}
 use Rattle.roam_sessions.proofs.ListedLemmas.{listed-none}
 use Rattle.roam_sessions.proofs.chain.Chain.new.Goals as goal
@@ -16,13 +16,12 @@ returns-clause-sound g c =
         given = λ t le. none t;
         within = omega arith;
       };
-      of_peer = c.new-2.ensures F none;
+      of_peer = c.new-2.ensures F (linked_by c.new.result) none;
       count = ap (λ (l : List Session). length l) (listed-none F 0 tickets_end (λ u le. none u))
           ∙ sym c.new.ensures.len;
       room = record {
         by_ticket = omega arith;
         of_peer = record {
-          links = omega arith;
           by_peer = omega arith;
           by_address = omega arith;
           by_identifier = omega arith;

@@ -6,7 +6,7 @@ use Rattle.roam_sessions.proofs.chain.Chain.reserve.Goals as goal
 pub returns-in_err-reserve-clause-sound : goal.returns-in_err-reserve-clause-sound
 returns-in_err-reserve-clause-sound g c =
     let sound = c.requires in
-    grown-sound c.args.self.now _ sound c.reserve.ensures.entries (λ F are. are) refl
+    grown-sound c.args.self.now _ sound c.reserve.ensures.entries (λ F b are. are) refl
     (record {
       by_ticket = omega (arith, sound.room.by_ticket, c.reserve.ensures.room.0);
       of_peer = sound.room.of_peer;

@@ -18,7 +18,7 @@ pub loop-i-init : goal.loop-i-init
 loop-i-init g c = λ sound grouped.
     let O = agreeing_at (shown_asked c.args.asked) c.args.self.now in
     let f = id_buckets c.args.self.now.chain.of_peer.buckets (session_at c.args.self.now.chain) in
-    let p = chained facet.Id c.args.self.now.chain.of_peer.by_id c.args.self.now.chain.of_peer.links in
+    let p = chained facet.Id c.args.self.now.chain.of_peer.by_id c.args.self.now.chain.by_ticket in
     subst (λ (o : Option ℕ). Walks O f p (bucket_text c.args.bucket) grouped 0 0 o) (sym c.oldest_of-at.ensures)
     (walk-begins O f p (bucket_text c.args.bucket) grouped)
 
@@ -27,7 +27,7 @@ unfolding tickets_end
 loop-i-preserved g c = λ sound grouped.
     let O = agreeing_at (shown_asked c.args.asked) c.args.self.now in
     let f = id_buckets c.args.self.now.chain.of_peer.buckets (session_at c.args.self.now.chain) in
-    let p = chained facet.Id c.args.self.now.chain.of_peer.by_id c.args.self.now.chain.of_peer.links in
+    let p = chained facet.Id c.args.self.now.chain.of_peer.by_id c.args.self.now.chain.by_ticket in
     let row = bucket_text c.args.bucket in
     let l = c.loop-i in
     let walks = l.invariant sound grouped in
@@ -50,7 +50,7 @@ pub returns : goal.returns
 returns g c = λ sound.
     let l = c.loop-i in
     let f = id_buckets c.args.self.now.chain.of_peer.buckets (session_at c.args.self.now.chain) in
-    let p = chained facet.Id c.args.self.now.chain.of_peer.by_id c.args.self.now.chain.of_peer.links in
+    let p = chained facet.Id c.args.self.now.chain.of_peer.by_id c.args.self.now.chain.by_ticket in
     let grouped = sound.chain.of_peer.by_id in
     walk-ends (agreeing_at (shown_asked c.args.asked) c.args.self.now) f p (bucket_text c.args.bucket) grouped l.i l.count l.at
     (l.invariant sound grouped)

@@ -14,6 +14,6 @@ use Rattle.roam_sessions.proofs.table.Table.count_agreeing.Given as goal
 abbrev pub invariant-loop-i : goal.invariant-loop-i
 invariant-loop-i g l =
     IsTable l.self → (grouped : IsGrouped (id_buckets l.self.chain.of_peer.buckets (session_at l.self.chain))
-    (chained facet.Id l.self.chain.of_peer.by_id l.self.chain.of_peer.links))
+    (chained facet.Id l.self.chain.of_peer.by_id l.self.chain.by_ticket))
     → Walks (agreeing_at (shown_asked l.asked) l.self) (id_buckets l.self.chain.of_peer.buckets (session_at l.self.chain))
-    (chained facet.Id l.self.chain.of_peer.by_id l.self.chain.of_peer.links) (bucket_text l.bucket) grouped l.i l.count l.at
+    (chained facet.Id l.self.chain.of_peer.by_id l.self.chain.by_ticket) (bucket_text l.bucket) grouped l.i l.count l.at
