@@ -1,14 +1,32 @@
-use Rattle.std.proofs.Common.{◌≡◌, Option, Some, refl, sym, ◌∙◌, subst}
+use Rattle.std.proofs.Common.{◌≡◌, Option, Some, None, refl, sym, ◌∙◌, subst}
 use Rattle.std.specs.Prelude.{IsSome}
 use Rattle.roam_sessions.specs.Maps.{chained, ends_by, linked_at, links_at}
 use Rattle.roam_sessions.specs.Private.Buckets.{bucket_text, in_bucket}
-use Rattle.roam_sessions.specs.Private.Groups.{PutsRow}
+use Rattle.roam_sessions.specs.Private.Groups.{AreEndsOf, IsBesideOf, PutsRow}
 use Rattle.roam_sessions.specs.declared.ends.Ends.{Ends}
+use Rattle.roam_sessions.specs.declared.neighbours.Beside.{Beside}
 use Rattle.roam_sessions.proofs.BucketLemmas.{puts-bucket}
+use Rattle.roam_sessions.proofs.GroupLemmas.{in-own}
 use Rattle.roam_sessions.proofs.LinkLemmas.{beside-fits}
 use Rattle.roam_sessions.proofs.LinkedLemmas.{linked-parts}
 use Rattle.roam_sessions.proofs.StayLemmas.{both-stay, still}
 use Rattle.roam_sessions.proofs.bucketed.leave_bucket.Goals as goal
+
+-- a number of a bucket has ends there, and neighbours
+pub returns-in_default-clause-grouped : goal.returns-in_default-clause-grouped
+returns-in_default-clause-grouped g c = λ f h grouped goes.
+    let row = bucket_text c.args.bucket in
+    let none : ends_by c.args.ends.now c.args.bucket ≡ None = sym c.ends_in.ensures ∙ c.in_default.is in
+    let empty = subst (λ (o : Option Ends). AreEndsOf f row o) none (grouped.ends row) in
+    absurd (let there = in-own f c.args.number row goes.was in let gone = empty c.args.number in cc (there, gone))
+
+pub returns-in_default-beside_in-clause-grouped : goal.returns-in_default-beside_in-clause-grouped
+returns-in_default-beside_in-clause-grouped g c = λ f h grouped goes.
+    let row = bucket_text c.args.bucket in
+    let none : linked_at c.args.facet c.args.links.now c.args.number ≡ None =
+    sym c.beside_in.ensures ∙ c.in_default-beside_in.is in
+    absurd (subst (λ (o : Option Beside). IsBesideOf f row c.args.number o) none
+    (grouped.beside c.args.number row goes.was))
 
 pub returns-clause-grouped : goal.returns-clause-grouped
 returns-clause-grouped g c = λ f h grouped goes.

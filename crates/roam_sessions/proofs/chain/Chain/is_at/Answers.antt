@@ -11,10 +11,10 @@ returns-in_default g c =
     sym (ap (λ (o : Option ℕ). is_some (option_and_then
     (same_at (shown_session c.args.session) (session_at c.args.self.now)) o)) c.in_default.is)
 
-pub returns-in-None-session : goal.returns-in-None-session
-returns-in-None-session g c =
+pub returns-in-None : goal.returns-in-None
+returns-in-None g c =
     session-gone (shown_session c.args.session) (session_at c.args.self.now) c.args.ticket c.in-Some.ticket c.in-Some.is
-    (sym (rw c.in-None-session.is at c.session.ensures))
+    (sym (rw c.in-None.is at c.session.ensures))
 
 pub returns-in-Some-session : goal.returns-in-Some-session
 returns-in-Some-session g c =
