@@ -21,8 +21,8 @@ prover has to refuse it. A file of `mistakes/NAME` has one edit for the crate `N
 have a line `only: FUNCTION`); `mistakes/try.py --gate --all` tries all of these. `rt plant` makes more mistakes, by rule.
 """
 # Up to this crate each has a mistake that the gate can choose, but those whose mistakes weren't yet tried by their function alone.
-LAST = "roam_serve"
-UNTRIED = {f"roam_{it}" for it in ("attendant", "kits", "run", "serve", "threads")}
+LAST = "roam_server"
+UNTRIED = {f"roam_{it}" for it in ("admin_thread", "epoch", "server")}
 
 
 def crates() -> list[str]:
