@@ -1,6 +1,6 @@
 -- The groups of buckets, and a session in its bucket.
-use Rattle.std.proofs.Common.{◌≡◌, ◌≢◌, ℕ, ◌+◌, ◌-◌, ◌<◌, ◌≤◌, true, false, Bool, List, [], ◌∷◌, length, length-append, Option, Some, None, refl, sym, ap, ◌∙◌, subst, inl, inr, arith}
-use Rattle.std.specs.Prelude.{IsSome, is_some, option_and_then, if◌then◌else◌}
+use Rattle.std.proofs.Common.{◌≡◌, ◌≢◌, ℕ, ◌+◌, ◌-◌, ◌<◌, ◌≤◌, true, false, List, [], ◌∷◌, length, length-append, Option, Some, None, refl, sym, ap, ◌∙◌, subst, inl, inr, arith}
+use Rattle.std.specs.Prelude.{IsSome, is_some, option_and_then}
 use Rattle.std.specs.Str.{bytes_eq}
 use Rattle.std.proofs.lemmas.Bool.{cases_Bool}
 use Rattle.roam_wire.specs.Numbered.{PutsAt, listed, tickets_end}
@@ -36,10 +36,6 @@ pub none-in-bucket : {X : Type 0} (I : ℕ → Option X) → ((b : ℕ) → I b 
 none-in-bucket I none [] = refl
 none-in-bucket I none (b ∷ []) = none b
 none-in-bucket I none (b ∷ c ∷ rest) = refl
-
--- the same rows have the same where the numbers do
-pub same-in-bucket : {X : Type 0} (I J : ℕ → Option X) → J ≡ I → (row : List ℕ) → in_bucket J row ≡ in_bucket I row
-same-in-bucket {X} I J same row = ap (λ (K : ℕ → Option X). in_bucket K row) same
 
 -- one that has something is counted
 some-one : {X : Type 0} (o : Option X) → IsSome o → some_count o ≡ 1

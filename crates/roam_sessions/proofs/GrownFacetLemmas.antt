@@ -1,5 +1,5 @@
 -- The groups of sessions stay groups while their tables grow.
-use Rattle.std.proofs.Common.{◌≡◌, ℕ, true, false, List, Option, refl, sym, ap, subst}
+use Rattle.std.proofs.Common.{◌≡◌, ℕ, true, false, List, Option, sym, subst}
 use Rattle.roam_sessions.specs.Facets.{AreFaceted, grouped, id_buckets, masked, rows_under, whole_buckets}
 use Rattle.roam_sessions.specs.Maps.{ends_at, ends_by, groups_of}
 use Rattle.roam_sessions.specs.Private.Buckets.{in_bucket}

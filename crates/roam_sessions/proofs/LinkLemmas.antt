@@ -1,6 +1,6 @@
 -- The neighbours of a number in the group of one facet, beside those in the groups of the others.
 use Rattle.std.proofs.Common.{◌≡◌, ◌≢◌, ℕ, false, true, Option, Some, None, refl, sym, ap, ◌∙◌, inl, inr, arith}
-use Rattle.std.specs.Prelude.{option_map, ◌==◌, if◌then◌else◌}
+use Rattle.std.specs.Prelude.{option_map, ◌==◌}
 use Rattle.std.proofs.lemmas.Bool.{cases_Bool, cases_eq}
 use Rattle.std.proofs.lemmas.Bool.Decides.{nat_tests}
 use Rattle.roam_wire.specs.Numbered.{PutsAt}

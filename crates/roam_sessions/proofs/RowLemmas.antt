@@ -2,10 +2,10 @@
 use Rattle.std.proofs.Common.{◌≡◌, ℕ, ◌/◌, ◌%◌, ◌==◌, ◌+◌, ◌-◌, true, false, List, [], ◌∷◌, ◌++◌, length, Option, Some, None, refl, sym, ap, ◌∙◌, inl, inr, arith}
 use Rattle.std.specs.Prelude.{◌&&◌, ◌||◌, is_none, is_some, option_map, if◌then◌else◌}
 use Rattle.std.specs.Str.{bytes_eq}
-use Rattle.std.proofs.lemmas.Bool.{and_from, and_left, and_parts, and_right, cases_Bool, or_cases, or_parts}
+use Rattle.std.proofs.lemmas.Bool.{and_from, and_left, and_parts, and_right, cases_Bool, or_cases}
 use Rattle.roam_sessions.specs.Private.Groups.{if_row}
 use Rattle.roam_sessions.specs.Private.Masks.{asked_by, asked_for, lacks, mask_of, narrow, without_names}
-use Rattle.roam_sessions.specs.Private.Row.{part_text, row_text, whole_row}
+use Rattle.roam_sessions.specs.Private.Row.{part_text, row_text}
 use Rattle.roam_sessions.specs.Sessions.{Asked, Session, agrees, agrees_in}
 use Rattle.roam_sessions.proofs.SameLemmas.{number-is, octets-are, octets-same, same-number}
 

@@ -1,5 +1,5 @@
 -- Sessions stay where their neighbours change.
-use Rattle.std.proofs.Common.{◌≡◌, ℕ, Option, Some, None, refl, sym, ap, ◌∙◌, subst}
+use Rattle.std.proofs.Common.{ℕ, Option, Some, None, refl, sym, ap, ◌∙◌, subst}
 use Rattle.std.specs.Prelude.{IsSome, option_map}
 use Rattle.indexmap.specs.IndexMap.{IndexMap}
 use Rattle.roam_wire.specs.Numbered.{PutsAt}

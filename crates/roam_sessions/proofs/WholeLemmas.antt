@@ -1,6 +1,6 @@
 -- The sessions of a peer, and the one that makes way.
 use Rattle.std.proofs.Common.{◌≡◌, ℕ, ◌<◌, ◌≤◌, ◌==◌, Bool, true, false, List, [], ◌∷◌, length, Option, Some, None, refl, sym, ap, ◌∙◌, subst, inl, inr, arith}
-use Rattle.std.specs.Prelude.{◌&&◌, IsSome, filter, nat_le, not, option_and_then, option_map}
+use Rattle.std.specs.Prelude.{◌&&◌, IsSome, filter, nat_le, not, option_and_then}
 use Rattle.std.proofs.lemmas.Bool.{cases_Bool, cases_eq, cases_lt, not_from_false}
 use Rattle.std.proofs.lemmas.Bool.Decides.{nat_tests}
 use Rattle.roam_wire.specs.Numbered.{PutsAt, tickets_end}

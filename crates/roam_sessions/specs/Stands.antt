@@ -1,5 +1,5 @@
 -- The meaning of the code's chain of sessions (ours).
-use Rattle.std.specs.Prelude.{◌≡◌, ℕ, ◌+◌, ◌<◌, ◌≤◌, List, length, Option, Some, None, option_map}
+use Rattle.std.specs.Prelude.{◌≡◌, ℕ, ◌+◌, ◌<◌, ◌≤◌, List, length, Option, Some, None}
 use Rattle.indexmap.specs.IndexMap.{index_map_len, spare}
 use Rattle.roam_wire.specs.Numbered.{tickets_end}
 use Rattle.roam_sessions.specs.Facets.{AreFaceted, FacetsHaveRoom}

@@ -3,13 +3,12 @@
 ghost use Rattle.std.specs.Prelude.{◌≡◌, ◌≢◌, ℕ, ◌+◌, ◌-◌, ◌<◌, ◌≤◌, [], ◌∷◌, ◌++◌, false};
 ghost use Rattle.std.specs.Prelude.{None, Some, IsOk, IsSome, OnOk, OnErr, filter, is_some, length};
 ghost use Rattle.std.specs.Prelude.{option_map};
-ghost use Rattle.roam_sessions.specs.Private.Tickets.{IsOneOf, IsTicketOf, NoneBefore};
+ghost use Rattle.roam_sessions.specs.Private.Tickets.{IsOneOf, NoneBefore};
 ghost use Rattle.roam_sessions.specs.Sessions.{agrees, has_most, within, without_first};
 ghost use Rattle.roam_sessions.specs.Kept.{kept_session, shown_asked, shown_session};
 ghost use Rattle.roam_sessions.specs.Parts.{shown_parts};
 ghost use Rattle.roam_sessions.specs.Stands.{IsSound, session_at, session_count, sessions_of};
-ghost use Rattle.roam_sessions.specs.Maps.{session_of};
-ghost use Rattle.indexmap.specs.IndexMap.{index_map_len, spare};
+ghost use Rattle.indexmap.specs.IndexMap.{spare};
 ghost use Rattle.roam_wire.specs.Numbered.{PutsAt};
 
 use crate::asked::{AskedRef, SessionRef};

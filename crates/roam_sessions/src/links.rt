@@ -93,64 +93,16 @@ fn link_of(links: Links, facet: Facet) -> Link
 fn with_link(links: Links, facet: Facet, link: Link) -> Links
     ensures { result ≡ with_link facet link links }
 {
-    let Links {
-        peer,
-        address,
-        identifier,
-        both,
-        id,
-        whole,
-    } = links;
+    let mut linked = links;
     match facet {
-        Facet::Peer => Links {
-            peer: link,
-            address,
-            identifier,
-            both,
-            id,
-            whole,
-        },
-        Facet::Address => Links {
-            peer,
-            address: link,
-            identifier,
-            both,
-            id,
-            whole,
-        },
-        Facet::Identifier => Links {
-            peer,
-            address,
-            identifier: link,
-            both,
-            id,
-            whole,
-        },
-        Facet::Both => Links {
-            peer,
-            address,
-            identifier,
-            both: link,
-            id,
-            whole,
-        },
-        Facet::Id => Links {
-            peer,
-            address,
-            identifier,
-            both,
-            id: link,
-            whole,
-        },
-        Facet::Whole => Links {
-            peer,
-            address,
-            identifier,
-            both,
-            id,
-            whole: link,
-        },
+        Facet::Peer => linked.peer = link,
+        Facet::Address => linked.address = link,
+        Facet::Identifier => linked.identifier = link,
+        Facet::Both => linked.both = link,
+        Facet::Id => linked.id = link,
+        Facet::Whole => linked.whole = link,
     }
+    linked
 }
 
 /// Returns the neighbours of a number in its group of a facet.

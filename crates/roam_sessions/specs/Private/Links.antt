@@ -1,5 +1,5 @@
 -- The neighbours of a number in each of its groups, beside one another (ours).
-use Rattle.std.specs.Prelude.{ℕ, ◌==◌, Bool, true, false, Option, Some, None, option_map, if◌then◌else◌}
+use Rattle.std.specs.Prelude.{ℕ, ◌==◌, Bool, true, false, Option, Some, None, if◌then◌else◌}
 use Rattle.roam_sessions.specs.declared.links.Facet.{Facet}
 use Rattle.roam_sessions.specs.declared.links.Facet.TheVariants as facet
 use Rattle.roam_sessions.specs.declared.links.Link.{Link}

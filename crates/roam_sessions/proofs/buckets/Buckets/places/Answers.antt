@@ -1,5 +1,4 @@
-use Rattle.std.proofs.Common.{List, ℕ, ap, ◌∙◌}
-use Rattle.roam_sessions.specs.Kept.{shown_session}
+use Rattle.std.proofs.Common.{ap, ◌∙◌}
 use Rattle.roam_sessions.specs.Private.Buckets.{bucket_in}
 use Rattle.roam_sessions.specs.Private.Masks.{without_names}
 use Rattle.roam_sessions.specs.Private.Row.{row_text}

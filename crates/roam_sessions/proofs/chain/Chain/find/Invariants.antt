@@ -1,4 +1,3 @@
-use Rattle.std.proofs.Common.{ℕ, List, Option}
 use Rattle.roam_sessions.specs.Facets.{whole_buckets}
 use Rattle.roam_sessions.specs.Kept.{shown_session}
 use Rattle.roam_sessions.specs.Maps.{chained}

@@ -1,4 +1,4 @@
-use Rattle.std.proofs.Common.{Option, ℕ, Some, sym, ap, ◌∙◌}
+use Rattle.std.proofs.Common.{Option, ℕ, sym, ap, ◌∙◌}
 use Rattle.std.specs.Prelude.{is_some, option_and_then}
 use Rattle.roam_sessions.specs.Kept.{shown_session}
 use Rattle.roam_sessions.specs.Private.Buckets.{same_at}

@@ -1,4 +1,4 @@
-use Rattle.std.proofs.Common.{◌≡◌, ℕ, true, false, Some, refl, ap, ◌∙◌, ◌+◌, ◌<◌, ◌≤◌, arith}
+use Rattle.std.proofs.Common.{◌≡◌, ℕ, true, false, Some, refl, ap, ◌∙◌, arith}
 use Rattle.roam_sessions.specs.Facets.{id_buckets, masked, rows_under, whole_buckets}
 use Rattle.roam_sessions.specs.Kept.{kept_session}
 use Rattle.roam_sessions.specs.Maps.{ends_at, ends_by, linked_at, links_at, session_of}

@@ -1,4 +1,4 @@
-use Rattle.std.proofs.Common.{List, ℕ, length, ap, ◌∙◌}
+use Rattle.std.proofs.Common.{ℕ, length, ap, ◌∙◌}
 use Rattle.roam_sessions.specs.Ended.{agreeing_at, where_open}
 use Rattle.roam_sessions.specs.Facets.{id_buckets}
 use Rattle.roam_sessions.specs.Kept.{shown_asked}

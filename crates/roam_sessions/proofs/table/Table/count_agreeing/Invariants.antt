@@ -1,4 +1,3 @@
-use Rattle.std.proofs.Common.{ℕ, List, Option}
 use Rattle.roam_sessions.specs.Ended.{IsTable, agreeing_at}
 use Rattle.roam_sessions.specs.Facets.{id_buckets}
 use Rattle.roam_sessions.specs.Kept.{shown_asked}
