@@ -1,17 +1,15 @@
-#!/usr/bin/env python3
 """Wraps lines of more than 120 columns in the .antt files of crates: signatures, proofs, and comments; not imports.
 
-    tools/wrap.py CRATE ..
+    tools/look.py wraps CRATE ..
 
-Blanks mean nothing there but at the beginning of a definition, so only blanks change; it looks itself that nothing else does. `rt fmt`
-comes after it.
+It changes files, so it runs only where it is named, with crates. `sizes` looks for lines that are too long. Blanks mean nothing there but at
+the beginning of a definition, so only blanks change; it looks itself that nothing else does. `rt fmt` comes after it.
 """
 import pathlib
 import re
-import sys
 import textwrap
 
-ROOT = pathlib.Path(__file__).resolve().parent.parent
+ROOT = pathlib.Path(__file__).resolve().parents[2]
 COLUMNS = 120
 BEFORE = ("→", "∙", "×", "⊎", "↔")
 RELATIONS = ("≡", "≤", "<", "++")
@@ -58,6 +56,7 @@ def wrapped(line: str) -> list[str]:
 
 
 def of_file(text: str) -> str:
+    """Returns a file's text with its long lines wrapped."""
     lines: list[str] = []
     for line in text.split("\n"):
         if len(line) <= COLUMNS or re.match(r"\s*(?:pub )?use ", line):
@@ -73,11 +72,11 @@ def of_file(text: str) -> str:
     return "\n".join(lines)
 
 
-def main() -> int:
-    if not sys.argv[1:] or any(not (ROOT / "crates" / it).is_dir() for it in sys.argv[1:]):
-        print(__doc__, file=sys.stderr)
-        return 2
-    for crate in sys.argv[1:]:
+def other(words: list[str]) -> int | None:
+    """Wraps the lines of the crates that are named: the status, or nothing where they aren't known."""
+    if not words or any(not (ROOT / "crates" / it).is_dir() for it in words):
+        return None
+    for crate in words:
         for path in [*(ROOT / "crates" / crate).glob("proofs/**/*.antt"), *(ROOT / "crates" / crate).glob("specs/**/*.antt")]:
             text = path.read_text(encoding="utf-8")
             made = of_file(text)
@@ -86,7 +85,3 @@ def main() -> int:
             if made != text:
                 path.write_text(made, encoding="utf-8")
     return 0
-
-
-if __name__ == "__main__":
-    sys.exit(main())
