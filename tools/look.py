@@ -11,17 +11,22 @@ The looks, each a module of tools/looking, whose head says what it looks at:
     unused        imports and lemmas that nothing uses (also: unused [--fix] CRATE ..)
     tests_only    public functions that only tests call
     proved        names behind the crates' lists of what is proved (the head of lib.rt) that aren't there
+
+One more changes files, and runs only where it is named:
+
+    wraps CRATE ..    wraps lines of more than 120 columns in .antt files
 """
 import importlib
 import sys
 
 sys.dont_write_bytecode = True
 LOOKS = ("names", "counts", "sizes", "unused", "tests_only", "proved")
+CHANGES = ("wraps",)
 
 
 def main() -> int:
     words = sys.argv[1:]
-    if words and words[0] in LOOKS and not set(words) <= set(LOOKS):
+    if words and words[0] in LOOKS + CHANGES and not set(words) <= set(LOOKS):
         module = importlib.import_module(f"looking.{words[0]}")
         if hasattr(module, "other") and (status := module.other(words[1:])) is not None:
             return status

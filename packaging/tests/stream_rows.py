@@ -29,9 +29,6 @@ def cuts(trial, take):
 
 def realms(trial, take):
     """Two realms at one home server: two connections."""
-    def dialed():
-        return {line.rsplit(" for ", 1)[1] for line in trial.around.log("streams").splitlines() if " dialed for " in line}
-
     one = connected(take)
     trial.home.clear(answers)
     for number, user in ((1, b"u@a.example"), (2, b"u@b.example")):
@@ -39,7 +36,7 @@ def realms(trial, take):
         want(accepted_by(one, number), f"a login of {user.decode()}")
     (_, first, _), (_, second, _) = trial.home.came
     want(first != second, "two realms of a home server have a connection each")
-    want(len([it for it in dialed() if it.endswith((":29658", ":29659"))]) == 2, "dialed for the `out` of each")
+    want(all(trial.told(f" dialed for 127.0.0.1:{out}\n") for out in (29658, 29659)), "dialed for the `out` of each, which is told within 10 s")
     one.close()
 
 
@@ -49,12 +46,10 @@ def without_reverse(trial, take, away):
     trial.away.clear(answers)
     one.send(access(1, b"c", b"u@c.example"))
     want(accepted_by(one, 1), "a login of the third realm")
-    before = trial.around.log("streams").count("34 StreamPlace")
+    refused = f"refused 34 StreamPlace from {away[0]}:{away[1]} at "
+    before = trial.around.log("streams").count(refused)
     trial.away.streams[-1].send(packets.signed(packets.DISCONNECT_REQUEST, 5, packets.ZEROS, [(44, b"s2")], SECRET))
-    until = time.monotonic() + 10
-    while trial.around.log("streams").count("34 StreamPlace") == before and time.monotonic() < until:
-        time.sleep(0.05)
-    want(f"refused 34 StreamPlace from {away[0]}:{away[1]} at " in trial.around.log("streams"), "a Disconnect-Request without `reverse` is refused")
+    want(trial.told(refused, times=before + 1), "a Disconnect-Request without `reverse` is refused")
     one.close()
 
 
@@ -69,7 +64,7 @@ def silent(trial, take, away):
     one.close()
 
 
-def away_and_back(trial, take):
+def away_and_back(trial, take, away):
     """A home server that ends each connection without an answer is dialed at 0, 1 and 3 s, and what comes between is dropped."""
     one = connected(take)
     # An answer: so the next delay is the shortest one.
@@ -77,7 +72,10 @@ def away_and_back(trial, take):
     time.sleep(5)
     one.send(access(3, b"back", b"u@c.example"))
     want(accepted_by(one, 3, 12), "it is back")
+    ended = f"stream {away[0]}:{away[1]} ended: "
+    before = trial.around.log("streams").count(ended)
     trial.away.cut()
+    want(trial.told(ended, times=before + 1), "its connection is cut, which is told within 10 s")
     time.sleep(0.6)
     trial.away.clear(lambda stream, packet: stream.connection.shutdown(socket.SHUT_RDWR))
     one.send(access(4, b"away", b"u@c.example"))
@@ -85,7 +83,7 @@ def away_and_back(trial, take):
     moments = [round(when - trial.away.came[0][0], 1) for when, _, _ in trial.away.came]
     want(len(moments) == 3 and 0.9 <= moments[1] < 1.9 < moments[2] - moments[1] < 3.9, f"a request is put at 0, 1 and 3 s: {moments}")
     want(len({number for _, number, _ in trial.away.came}) == 3, "on a connection of its own each time")
-    want("33 StreamAway" in trial.around.log("streams"), "and dropped between")
+    want(trial.told("33 StreamAway"), "and dropped between")
     one.close()
 
 
@@ -116,7 +114,7 @@ def stranger_at_socket(trial, take):
     """A datagram of neither `auth` nor `acct` at a connection's socket is dropped."""
     one = connected(take, "127.1.0.9")
     port = one.connection.getsockname()[1]
-    want(trial.told(f" taken from 127.1.0.9:{port}"), "a connection is taken")
+    want(trial.told(f" taken from 127.1.0.9:{port}\n"), "a connection is taken")
     line = next(it for it in trial.around.log("streams").splitlines() if it.endswith(f" taken from 127.1.0.9:{port}"))
     at = line.split(" stream ", 1)[1].split(" ", 1)[0]
     with socket.socket(socket.AF_INET, socket.SOCK_DGRAM) as stranger:
@@ -153,6 +151,6 @@ def play(trial, take, away):
     realms(trial, take)
     without_reverse(trial, take, away)
     silent(trial, take, away)
-    away_and_back(trial, take)
+    away_and_back(trial, take, away)
     strangers(trial, away)
     stranger_at_socket(trial, take)

@@ -217,6 +217,7 @@ def logs_in(directory, program):
         around.broker(program, changed(sample("roam.conf", directory), re.compile("^control = .*\n", re.M), ""), 60000)
         around.start("streams", [program, "streams", around.path("streams.conf"), "60000"])
         around.start("haproxy", [haproxy, "-db", "-f", front])
+        around.server.waits_for()
         want(wait_for_front(directory), "haproxy takes connections")
         want(is_answered(directory, "proxy1.university.example"), "a login by a certificate of a peer goes through TLS on both sides")
         want(comes(around, "broker", 'peer="university"'), "the broker has it from that peer")

@@ -110,22 +110,24 @@ class Trial:
     def start(self):
         self.around.broker(self.program, BROKER, 120000)
         self.around.start("streams", [self.program, "streams", self.around.write("streams.conf", STREAMS + MORE), "120000"])
-        for _ in range(100):
+        # What comes before the broker's sockets are there is lost, and a front sends it once.
+        self.around.server.waits_for()
+        until = time.monotonic() + 20
+        while time.monotonic() < until:
             try:
                 connected(TAKE).close()
                 return
             except OSError:
                 time.sleep(0.05)
-        want(False, "connections are taken")
+        want(False, "connections are taken within 20 s")
 
-    def told(self, text, seconds=10.0, of="streams"):
-        """Whether a line of one of the two has this text, by then."""
+    def told(self, text, seconds=10.0, of="streams", times=1):
+        """Whether lines of one of the two have this text, so often, by then. A line may come behind the packet of which it tells: another
+        thread writes it."""
         until = time.monotonic() + seconds
-        while time.monotonic() < until:
-            if text in self.around.log(of):
-                return True
+        while self.around.log(of).count(text) < times and time.monotonic() < until:
             time.sleep(0.05)
-        return False
+        return self.around.log(of).count(text) >= times
 
     def pieces(self):
         one = connected(TAKE)
@@ -217,11 +219,23 @@ class Trial:
         want(accepted_by(some[0], 3), "the others go on")
         for one in some:
             one.close()
-        time.sleep(0.2)
-        one = connected(TAKE, "127.1.0.9")
-        one.send(access(4))
-        want(accepted_by(one, 4), "where they ended one more is taken")
-        one.close()
+        want(self.takes_one("127.1.0.9"), "where they ended one more is taken, within 10 s")
+
+    def takes_one(self, address, seconds=10.0):
+        """Whether a connection of an address is taken, and answered on, by then: that others of it ended may be seen later."""
+        until = time.monotonic() + seconds
+        while time.monotonic() < until:
+            one = connected(TAKE, address)
+            try:
+                one.send(access(4))
+                if accepted_by(one, 4, until - time.monotonic()):
+                    return True
+            except OSError:
+                pass
+            finally:
+                one.close()
+            time.sleep(0.05)
+        return False
 
     def once(self):
         self.home.clear(None)

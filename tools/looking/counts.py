@@ -57,15 +57,15 @@ COUNTS = {
 
 
 CONSTANTS = {
-    r"notices, a queue of ([\d,]+) for each": ("roam_telling/src/notices.rt", "NOTICES"),
-    r"through a\s+queue of ([\d,]+) for each thread": ("roam_telling/src/exchanges.rt", "LINES"),
+    r"notices, a queue of ([\d,]+) for each": ("roam_logger/src/notices.rt", "NOTICES"),
+    r"through a\s+queue of ([\d,]+) for each thread": ("roam_logger/src/exchanges.rt", "LINES"),
     r"up to (\d+) datagrams of one\b|at most (\d+) datagrams of a socket": ("roam_workers/src/worker.rt", "IN_A_ROUND"),
     r"more than (\d+) entries are due|about (\d+) entries\b": ("roam_history/src/moment.rt", "MOST"),
     r"go back,\s+by (\d+) ms at most|moves them, by (\d+) ms at most": ("roam_history/src/moment.rt", "LATE"),
     r"(\d+) sessions in a hold of a lock": ("roam_workers/src/hub_calls.rt", "SESSIONS_AT_ONCE"),
     r"the send\s+queue \((\d+) packets a worker": ("roam_port/src/sharing.rt", "GREATEST_SHARE"),
     r"packets a worker; (\d+) with 1,024 realms": ("roam_port/src/sharing.rt", "LEAST_SHARE"),
-    r"at most (\d+)\s+connections are open": ("roam_control/src/connections.rt", "CONNECTIONS"),
+    r"at most (\d+)\s+connections are open": ("roam_admin/src/connections.rt", "CONNECTIONS"),
     r"asks\s+for\s+([\d,]+) octets a socket": ("roam_sockets/src/options.rt", "RECEIVE_BUFFER"),
     r"and for ([\d,]+) for each of the eight": ("roam_sockets/src/options.rt", "BUFFER_OF_SEVERAL"),
     r"and (\d+) beside them want": ("roam_sockets/src/descriptors.rt", "BESIDE"),

@@ -167,7 +167,7 @@ GOOD = "nothing is unused"
 
 
 # Crates whose unused imports go with their next change: taking them out makes the proof of the crate, and of all above it, anew.
-UNTIDIED = ("roam_sessions",)
+UNTIDIED = ()
 
 
 def faults() -> list[str]:

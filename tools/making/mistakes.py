@@ -20,9 +20,8 @@ prover has to refuse it. A file of `mistakes/NAME` has one edit for the crate `N
 `mistakes/try.py NAME` tries all of a crate. The gate tries a third of the {chosen} in bold type in each run, in functions that call little (they
 have a line `only: FUNCTION`); `mistakes/try.py --gate --all` tries all of these. `rt plant` makes more mistakes, by rule.
 """
-# Up to this crate each has a mistake that the gate can choose, but those whose mistakes weren't yet tried by their function alone.
-LAST = "roam_serve"
-UNTRIED = {f"roam_{it}" for it in ("attendant", "kits", "run", "serve", "threads")}
+# Up to this crate each has a mistake that the gate can choose.
+LAST = "roam_server"
 
 
 def crates() -> list[str]:
@@ -77,5 +76,5 @@ def faults() -> list[str]:
         said += [f"mistakes/{crate}: there is no such crate"] if crate not in names else []
         said += [f"{path.relative_to(ROOT)}: {crate} has no function {function}" for function, _, _, path in of if not has_function(crate, function)]
         said += [f"{path.relative_to(ROOT)}: what it changes isn't there once" for _, _, _, path in of if not is_edit(crate, path)]
-    own = [it for it in names[:names.index(LAST) + 1] if it not in UNTRIED]
+    own = names[:names.index(LAST) + 1]
     return said + [f"the gate can choose no mistake of {it}" for it in own if not any(chosen for _, _, chosen, _ in mistakes.get(it, []))]

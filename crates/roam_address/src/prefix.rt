@@ -95,7 +95,7 @@ impl Prefix {
         self.network
     }
 
-    /// For tests. Returns how many bits count.
+    /// Returns how many bits count.
     pub fn length(self) -> u8
         ensures { result ≡ length_of self }
     {

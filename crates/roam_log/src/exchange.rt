@@ -250,7 +250,7 @@ impl Value {
         value
     }
 
-    /// Is these octets from now on; of more than 253 the first ones.
+    /// Holds these octets from now on; of more than 253 the first ones.
     fn put(&mut self, octets: &[u8])
         ensures { octets_if self.new ≡ Some (take 253 octets.now) }
     {
@@ -260,7 +260,7 @@ impl Value {
         self.len = len as u8;
     }
 
-    /// Is these octets from now on, where there are any. Only as many octets are written as it has.
+    /// Holds these octets from now on, where there are any. Only as many octets are written as it has.
     pub(crate) fn set(&mut self, octets: Option<&[u8]>)
         ensures { octets_if self.new ≡ option_map (take 253) (shown_value octets.entry) }
     {

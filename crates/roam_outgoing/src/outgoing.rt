@@ -5,10 +5,10 @@ ghost use Rattle.std.specs.Vec.{vec_len};
 ghost use Rattle.roam_port.specs.Outbox.{port_count};
 
 use crate::carried::outbox_for;
+use crate::counters::ThreadCounts;
 use crate::losses::SharedLosses;
 use mio::{Events, Poll};
 use roam_admission::Out;
-use roam_counting::ThreadCounts;
 use roam_exchange::Outs;
 use roam_port::{Account, Outbox, Sent};
 use roam_sockets::{PlaceSockets, Polls, Socket};

@@ -1,7 +1,7 @@
 //! The place of each realm in a file that is served next.
 
 use roam_conf::{Config, Realm};
-use roam_serve::{FileOrder, Manner};
+use roam_server::{FileOrder, Manner};
 use std::alloc::{AllocError, Global};
 
 /// Returns the names of a configuration's realms, in their order.

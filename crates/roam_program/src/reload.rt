@@ -14,7 +14,7 @@ use roam_conf_reader::{Settings, following_config, read_config_and_settings};
 use roam_diagnosis::{Lines, diagnose};
 use roam_keeping::{Job, Keeper, Written, keep_old, kept, number_of, put_aside};
 use roam_reload::{LayFault, hindrance_of};
-use roam_serve::{FileOrder, Following, KeepEnd, Keeping, ServeFault, Source, StationForm};
+use roam_server::{FileOrder, Following, KeepEnd, Keeping, ServeFault, Source, StationForm};
 use std::alloc::Global;
 use std::io;
 use std::io::Write;

@@ -18,7 +18,7 @@ use roam_conf::Config;
 use roam_conf_reader::{Settings, read_config_and_settings};
 use roam_diagnosis::{Lines, diagnose};
 use roam_keeping::KeepsFiles;
-use roam_serve::{
+use roam_server::{
     Build, ControlSocket, Manner, ServeFault, ServeOptions, SocketPath, Watch, descriptors_wanted,
     reason_of, serve, with_drawn_seed,
 };

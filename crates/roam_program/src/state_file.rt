@@ -6,7 +6,7 @@ ghost use Rattle.roam_sockets.specs.Faults.{IsFaultOf};
 
 use roam_conf_reader::Settings;
 use roam_keeping::{FileLock, Obstacle, obstacle_at};
-use roam_serve::{Manner, ServeFault, SocketPath, StateFile, StationForm};
+use roam_server::{Manner, ServeFault, SocketPath, StateFile, StationForm};
 use roam_sockets::words_of;
 use std::alloc::{AllocError, Global};
 use std::io::ErrorKind;

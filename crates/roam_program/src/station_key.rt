@@ -3,7 +3,7 @@
 use log::{Log, warn};
 use roam_cli::TextFile;
 use roam_conf_reader::{Settings, StationWord};
-use roam_serve::{StationForm, StationKey};
+use roam_server::{StationForm, StationKey};
 use std::alloc::{AllocError, Global};
 use std::rt::Files;
 

@@ -4,8 +4,8 @@ use Rattle.std.specs.Prelude.{IsSome, filter, is_some, option_and_then, if◌the
 use Rattle.std.specs.List.{cons_option}
 use Rattle.std.proofs.lemmas.Bool.{cases_Bool}
 use Rattle.roam_wire.specs.Numbered.{PutsAt, listed, tickets_end}
-use Rattle.roam_sessions.specs.Facets.{AreFaceted, ComesIn, facet_by, facet_of, masked, rows_under}
-use Rattle.roam_sessions.specs.Maps.{beside_at, groups_of, linked, linked_at}
+use Rattle.roam_sessions.specs.Facets.{AreFaceted, ComesIn, facet_by, facet_of, grouped, masked, rows_under}
+use Rattle.roam_sessions.specs.Maps.{beside_at, ends_at, groups_of}
 use Rattle.roam_sessions.specs.Private.Groups.{AreEndsOf, Comes, Goes, IsGrouped, PlainGroups, count_of, if_row, in_group, oldest_of}
 use Rattle.roam_sessions.specs.Private.Masks.{mask_of}
 use Rattle.roam_sessions.specs.Private.Row.{row_text, row_under}
@@ -13,6 +13,7 @@ use Rattle.roam_sessions.specs.Private.Tickets.{IsOneOf, NoneBefore, all_listed}
 use Rattle.roam_sessions.specs.Sessions.{Asked, Session, agrees}
 use Rattle.roam_sessions.specs.declared.ends.Ends.{Ends}
 use Rattle.roam_sessions.specs.declared.facets.Facets.{Facets}
+use Rattle.roam_sessions.specs.declared.links.Facet.{Facet}
 use Rattle.roam_sessions.specs.declared.links.Facet.TheVariants as facet
 use Rattle.roam_sessions.specs.declared.neighbours.Beside.{Beside}
 use Rattle.roam_sessions.proofs.ListedLemmas.{listed-none}
@@ -43,45 +44,46 @@ module _ (r : Session → Option (List ℕ)) (F G : ℕ → Option Session) (t :
   }
 
 -- the groups of what is asked are those of its parts
-pub facet-grouped : {A : Type 0} (q : Asked) (f : Facets A) (F : ℕ → Option Session) → AreFaceted F f
+pub facet-grouped : {A : Type 0} (q : Asked) (f : Facets A) (F : ℕ → Option Session)
+    (b : Facet → ℕ → Option Beside) → AreFaceted F f b
     → is_some q.id ≡ false → (beside : ℕ → Option Beside)
     × IsGrouped (rows_under (mask_of q) F) (record { ends = facet_of q f; beside = beside })
-facet-grouped {A} q f F are none = by q.nas.address q.nas.identifier q.nas.ipv6
+facet-grouped {A} q f F b are none = by q.nas.address q.nas.identifier q.nas.ipv6
   where
     by : (a i v : Option (List ℕ)) → (beside : ℕ → Option Beside)
         × IsGrouped (rows_under (masked (is_some a) (is_some i) (is_some v) (is_some q.id)) F)
         (record { ends = facet_by a i v f; beside = beside })
     by None None None = (
-      linked_at facet.Peer f.links,
-      subst (λ (b : Bool). IsGrouped (rows_under (masked false false false b) F) (linked facet.Peer f.by_peer f.links)) (sym none) are.by_peer,
+      b facet.Peer,
+      subst (λ (k : Bool). IsGrouped (rows_under (masked false false false k) F) (grouped (ends_at f.by_peer) (b facet.Peer))) (sym none) are.by_peer,
     )
     by (Some a) None None = (
-      linked_at facet.Address f.links,
-      subst (λ (b : Bool). IsGrouped (rows_under (masked true false false b) F) (linked facet.Address f.by_address f.links)) (sym none) are.by_address,
+      b facet.Address,
+      subst (λ (k : Bool). IsGrouped (rows_under (masked true false false k) F) (grouped (ends_at f.by_address) (b facet.Address))) (sym none) are.by_address,
     )
     by None (Some i) None = (
-      linked_at facet.Identifier f.links,
-      subst (λ (b : Bool). IsGrouped (rows_under (masked false true false b) F) (linked facet.Identifier f.by_identifier f.links)) (sym none) are.by_identifier,
+      b facet.Identifier,
+      subst (λ (k : Bool). IsGrouped (rows_under (masked false true false k) F) (grouped (ends_at f.by_identifier) (b facet.Identifier))) (sym none) are.by_identifier,
     )
     by (Some a) (Some i) None = (
-      linked_at facet.Both f.links,
-      subst (λ (b : Bool). IsGrouped (rows_under (masked true true false b) F) (linked facet.Both f.by_both f.links)) (sym none) are.by_both,
+      b facet.Both,
+      subst (λ (k : Bool). IsGrouped (rows_under (masked true true false k) F) (grouped (ends_at f.by_both) (b facet.Both))) (sym none) are.by_both,
     )
     by None None (Some v) = (
       beside_at f.by_ipv6.beside,
-      subst (λ (b : Bool). IsGrouped (rows_under (masked false false true b) F) (groups_of f.by_ipv6)) (sym none) are.by_ipv6,
+      subst (λ (k : Bool). IsGrouped (rows_under (masked false false true k) F) (groups_of f.by_ipv6)) (sym none) are.by_ipv6,
     )
     by (Some a) None (Some v) = (
       beside_at f.by_address_ipv6.beside,
-      subst (λ (b : Bool). IsGrouped (rows_under (masked true false true b) F) (groups_of f.by_address_ipv6)) (sym none) are.by_address_ipv6,
+      subst (λ (k : Bool). IsGrouped (rows_under (masked true false true k) F) (groups_of f.by_address_ipv6)) (sym none) are.by_address_ipv6,
     )
     by None (Some i) (Some v) = (
       beside_at f.by_identifier_ipv6.beside,
-      subst (λ (b : Bool). IsGrouped (rows_under (masked false true true b) F) (groups_of f.by_identifier_ipv6)) (sym none) are.by_identifier_ipv6,
+      subst (λ (k : Bool). IsGrouped (rows_under (masked false true true k) F) (groups_of f.by_identifier_ipv6)) (sym none) are.by_identifier_ipv6,
     )
     by (Some a) (Some i) (Some v) = (
       beside_at f.by_all.beside,
-      subst (λ (b : Bool). IsGrouped (rows_under (masked true true true b) F) (groups_of f.by_all)) (sym none) are.by_all,
+      subst (λ (k : Bool). IsGrouped (rows_under (masked true true true k) F) (groups_of f.by_all)) (sym none) are.by_all,
     )
 
 -- as many have a row as pass a test

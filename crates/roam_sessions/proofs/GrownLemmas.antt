@@ -1,47 +1,47 @@
 -- A chain stays one while its tables grow.
 use Rattle.std.proofs.Common.{◌≡◌, ℕ, ◌+◌, ◌<◌, List, length, Option, sym, ap, ◌∙◌, subst}
 use Rattle.std.specs.Prelude.{nat_eq, option_map}
-use Rattle.std.specs.Cmp.Lexicographic.{pointwise}
 use Rattle.std.specs.Map.{lookup}
 use Rattle.indexmap.specs.IndexMap.{IndexMap}
 use Rattle.roam_wire.specs.Numbered.{tickets_end}
 use Rattle.roam_sessions.specs.Facets.{AreFaceted}
-use Rattle.roam_sessions.specs.Kept.{kept_session}
-use Rattle.roam_sessions.specs.Maps.{number_at, session_of}
-use Rattle.roam_sessions.specs.Private.Tickets.{IsNoted, all_listed}
+use Rattle.roam_sessions.specs.Maps.{linked_by, linked_session, session_of}
+use Rattle.roam_sessions.specs.Private.Links.{beside_of}
+use Rattle.roam_sessions.specs.Private.Tickets.{all_listed}
 use Rattle.roam_sessions.specs.Sessions.{Session}
-use Rattle.roam_sessions.specs.Stands.{AreTickets, HaveRoom, IsSound, session_at, whole_rows}
+use Rattle.roam_sessions.specs.Stands.{AreTickets, HaveRoom, IsSound, session_at}
 use Rattle.roam_sessions.specs.declared.chain.Chain.{Chain}
 use Rattle.roam_sessions.specs.declared.facets.Facets.{Facets}
-use Rattle.roam_sessions.specs.declared.kept_row.KeptRow.{KeptRow}
-use Rattle.roam_sessions.specs.declared.packed_session.OpenSession.{OpenSession}
+use Rattle.roam_sessions.specs.declared.links.Facet.{Facet}
+use Rattle.roam_sessions.specs.declared.neighbours.Beside.{Beside}
+use Rattle.roam_sessions.specs.declared.session_map.LinkedSession.{LinkedSession}
 
 -- what is so of the sessions of a map, where its entries are others'
-same-sessions : {A H : Type 0} (m n : IndexMap ℕ (OpenSession A) H) (P : (ℕ → Option Session) → Type 0)
+same-sessions : {A H : Type 0} (m n : IndexMap ℕ (LinkedSession A) H) (P : (ℕ → Option Session) → Type 0)
     → n.entries ≡ m.entries → P (session_of m) → P (session_of n)
 same-sessions {A} m n P same h =
-    subst (λ (es : List (ℕ × OpenSession A)). P (λ t. option_map kept_session (lookup (nat_eq t) es))) (sym same) h
+    subst (λ (es : List (ℕ × LinkedSession A)). P (λ t. option_map linked_session (lookup (nat_eq t) es))) (sym same) h
 
--- and of the numbers of rows
-same-numbers : {A H : Type 0} (m n : IndexMap (KeptRow A) ℕ H) (P : (List ℕ → Option ℕ) → Type 0)
-    → n.entries ≡ m.entries → P (number_at m) → P (number_at n)
-same-numbers {A} m n P same h =
-    subst (λ (es : List (KeptRow A × ℕ)). P (λ row. lookup (λ k. pointwise nat_eq row k.octets.items) es)) (sym same) h
+-- what is so of sessions and their neighbours
+same-linked : {A H : Type 0} (m n : IndexMap ℕ (LinkedSession A) H)
+    (P : (ℕ → Option Session) → (Facet → ℕ → Option Beside) → Type 0)
+    → n.entries ≡ m.entries → P (session_of m) (linked_by m) → P (session_of n) (linked_by n)
+same-linked {A} m n P same h =
+    subst (λ (es : List (ℕ × LinkedSession A)). P (λ t. option_map linked_session (lookup (nat_eq t) es))
+    (λ facet t. option_map (beside_of facet) (option_map (λ (s : LinkedSession A). s.links) (lookup (nat_eq t) es)))) (sym same) h
 
 -- groups that stay, whatever the sessions are
 abbrev pub FacetsStay : {A : Type 0} → Facets A → Facets A → Type 0
-FacetsStay f g = (F : ℕ → Option Session) → AreFaceted F f → AreFaceted F g
+FacetsStay f g = (F : ℕ → Option Session) (b : Facet → ℕ → Option Beside) → AreFaceted F f b → AreFaceted F g b
 
 pub grown-sound : {A : Type 0} (c d : Chain A) → IsSound c → d.by_ticket.entries ≡ c.by_ticket.entries
-    → d.whole.entries ≡ c.whole.entries → FacetsStay c.of_peer d.of_peer
+    → FacetsStay c.of_peer d.of_peer
     → d.next ≡ c.next → HaveRoom d.spare d → d.next + d.spare < tickets_end → IsSound d
-grown-sound c d sound entries whole peers next room tickets = record {
+grown-sound c d sound entries peers next room tickets = record {
   tickets = subst (λ (n : ℕ). AreTickets (session_at d) n) (sym next)
       (same-sessions c.by_ticket d.by_ticket (λ F. AreTickets F c.next) entries sound.tickets);
-  whole = same-numbers c.whole d.whole (λ w. IsNoted (whole_rows (session_at d)) w) whole
-      (same-sessions c.by_ticket d.by_ticket (λ F. IsNoted (whole_rows F) (number_at c.whole)) entries sound.whole);
-  of_peer = same-sessions c.by_ticket d.by_ticket (λ F. AreFaceted F d.of_peer) entries
-      (peers (session_at c) sound.of_peer);
+  of_peer = same-linked c.by_ticket d.by_ticket (λ F b. AreFaceted F d.of_peer b) entries
+      (peers (session_at c) (linked_by c.by_ticket) sound.of_peer);
   count = same-sessions c.by_ticket d.by_ticket (λ F. length (all_listed F) ≡ length c.by_ticket.entries) entries
       sound.count ∙ sym (ap (λ es. length es) entries);
   room = room;

@@ -27,9 +27,9 @@ pub mod GrownLemmas
 pub mod GrownFacetLemmas
 pub mod LinkLemmas
 pub mod LinkedLemmas
+pub mod StayLemmas
 pub mod OneSessionLemmas
 pub mod MapLemmas
-pub mod NotedLemmas
 pub mod PackedLemmas
 pub mod ShortLemmas
 pub mod PairLemmas
@@ -37,4 +37,5 @@ pub mod EndedLemmas
 pub mod OpenLemmas
 pub mod MarkLemmas
 pub mod WalkLemmas
+pub mod BucketLemmas
 pub mod PartedLemmas

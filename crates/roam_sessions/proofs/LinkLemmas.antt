@@ -1,11 +1,11 @@
 -- The neighbours of a number in the group of one facet, beside those in the groups of the others.
 use Rattle.std.proofs.Common.{◌≡◌, ◌≢◌, ℕ, false, true, Option, Some, None, refl, sym, ap, ◌∙◌, inl, inr, arith}
-use Rattle.std.specs.Prelude.{option_map, ◌==◌, if◌then◌else◌}
+use Rattle.std.specs.Prelude.{option_map, ◌==◌}
 use Rattle.std.proofs.lemmas.Bool.{cases_Bool, cases_eq}
 use Rattle.std.proofs.lemmas.Bool.Decides.{nat_tests}
 use Rattle.roam_wire.specs.Numbered.{PutsAt}
 use Rattle.roam_sessions.specs.Private.Groups.{is_at, with_newer_at, with_older_at}
-use Rattle.roam_sessions.specs.Private.Links.{beside_of, is_facet, link_of, no_beside, no_number, shown_link, with_link, written}
+use Rattle.roam_sessions.specs.Private.Links.{beside_of, is_facet, link_of, no_beside, no_links, no_number, shown_link, with_link, written}
 use Rattle.roam_sessions.specs.declared.links.Facet.{Facet}
 use Rattle.roam_sessions.specs.declared.links.Facet.TheVariants as facet
 use Rattle.roam_sessions.specs.declared.links.Link.{Link}
@@ -50,6 +50,7 @@ link-same facet.Address x l = refl
 link-same facet.Identifier x l = refl
 link-same facet.Both x l = refl
 link-same facet.Id x l = refl
+link-same facet.Whole x l = refl
 
 pub link-other : (other facet : Facet) → is_facet other facet ≡ false → (x : Link) (l : Links)
     → link_of other (with_link facet x l) ≡ link_of other l
@@ -58,40 +59,46 @@ link-other facet.Peer facet.Address h x l = refl
 link-other facet.Peer facet.Identifier h x l = refl
 link-other facet.Peer facet.Both h x l = refl
 link-other facet.Peer facet.Id h x l = refl
+link-other facet.Peer facet.Whole h x l = refl
 link-other facet.Address facet.Peer h x l = refl
 link-other facet.Address facet.Address h x l = absurd (cc h)
 link-other facet.Address facet.Identifier h x l = refl
 link-other facet.Address facet.Both h x l = refl
 link-other facet.Address facet.Id h x l = refl
+link-other facet.Address facet.Whole h x l = refl
 link-other facet.Identifier facet.Peer h x l = refl
 link-other facet.Identifier facet.Address h x l = refl
 link-other facet.Identifier facet.Identifier h x l = absurd (cc h)
 link-other facet.Identifier facet.Both h x l = refl
 link-other facet.Identifier facet.Id h x l = refl
+link-other facet.Identifier facet.Whole h x l = refl
 link-other facet.Both facet.Peer h x l = refl
 link-other facet.Both facet.Address h x l = refl
 link-other facet.Both facet.Identifier h x l = refl
 link-other facet.Both facet.Both h x l = absurd (cc h)
 link-other facet.Both facet.Id h x l = refl
+link-other facet.Both facet.Whole h x l = refl
 link-other facet.Id facet.Peer h x l = refl
 link-other facet.Id facet.Address h x l = refl
 link-other facet.Id facet.Identifier h x l = refl
 link-other facet.Id facet.Both h x l = refl
 link-other facet.Id facet.Id h x l = absurd (cc h)
+link-other facet.Id facet.Whole h x l = refl
+link-other facet.Whole facet.Peer h x l = refl
+link-other facet.Whole facet.Address h x l = refl
+link-other facet.Whole facet.Identifier h x l = refl
+link-other facet.Whole facet.Both h x l = refl
+link-other facet.Whole facet.Id h x l = refl
+link-other facet.Whole facet.Whole h x l = absurd (cc h)
 
-pub no-links : (facet : Facet) → option_map (beside_of facet) (Some (record {
-  peer = record { older = 18446744073709551615; newer = 18446744073709551615 };
-  address = record { older = 18446744073709551615; newer = 18446744073709551615 };
-  identifier = record { older = 18446744073709551615; newer = 18446744073709551615 };
-  both = record { older = 18446744073709551615; newer = 18446744073709551615 };
-  id = record { older = 18446744073709551615; newer = 18446744073709551615 };
-})) ≡ Some no_beside
+pub no-beside : (facet : Facet) → option_map (beside_of facet) (Some no_links) ≡ Some no_beside
 unfolding no_number
-no-links facet.Peer = refl
-no-links facet.Address = refl
-no-links facet.Identifier = refl
-no-links facet.Both = refl
-no-links facet.Id = refl
+no-beside facet.Peer = refl
+no-beside facet.Address = refl
+no-beside facet.Identifier = refl
+no-beside facet.Both = refl
+no-beside facet.Id = refl
+no-beside facet.Whole = refl
 
 -- a number that isn't the one that is given keeps its neighbours
 pub at-other : (n u : ℕ) → u ≢ n → is_at (Some n) u ≡ false

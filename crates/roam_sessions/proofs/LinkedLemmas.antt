@@ -1,10 +1,10 @@
 -- The groups of a facet stay groups, where a number comes in or goes, and where others do in the groups of other facets.
-use Rattle.std.proofs.Common.{◌≡◌, ◌≢◌, ℕ, ◌+◌, ◌<◌, ◌≤◌, true, false, List, Option, Some, None, refl, sym, ap, ◌∙◌, subst, inl, inr, arith}
+use Rattle.std.proofs.Common.{◌≡◌, ◌≢◌, ℕ, true, List, Option, Some, None, refl, sym, ap, ◌∙◌, subst, inl, inr, arith}
 use Rattle.std.specs.Prelude.{option_map, ◌==◌, if◌then◌else◌}
 use Rattle.std.proofs.lemmas.Bool.{cases_Bool}
 use Rattle.std.proofs.lemmas.Bool.Decides.{nat_tests}
 use Rattle.roam_wire.specs.Numbered.{PutsAt, tickets_end}
-use Rattle.roam_sessions.specs.Private.Groups.{AreEndsOf, Comes, Goes, IsBesideOf, IsGrouped, PlainGroups, PutsRow, ends_left, in_group, newest_of, with_newer_at, with_older_at}
+use Rattle.roam_sessions.specs.Private.Groups.{AreEndsOf, Comes, Goes, IsBesideOf, IsGrouped, PlainGroups, PutsRow, ends_left, newest_of, with_newer_at, with_older_at}
 use Rattle.roam_sessions.specs.Private.Links.{no_beside, no_number}
 use Rattle.roam_sessions.specs.declared.ends.Ends.{Ends}
 use Rattle.roam_sessions.specs.declared.neighbours.Beside.{Beside}

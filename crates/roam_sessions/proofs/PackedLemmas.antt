@@ -1,7 +1,6 @@
 -- Parts that were put behind one another are found again.
 use Rattle.std.proofs.Common.{◌≡◌, ℕ, ◌+◌, ◌≤◌, List, [], ◌∷◌, ◌++◌, length, take, drop, Option, Some, None, refl, ap, ◌∙◌, arith, append_assoc, length-append}
 use Rattle.roam_sessions.specs.Private.Packed.{AreParts, behind, count_of, front_of, octets_of, session_in, size_of}
-use Rattle.roam_sessions.specs.Sessions.{Session}
 
 take-front : (front rest : List ℕ) → take (length front) (front ++ rest) ≡ front
 take-front [] rest = refl

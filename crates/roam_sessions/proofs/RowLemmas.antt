@@ -2,10 +2,10 @@
 use Rattle.std.proofs.Common.{◌≡◌, ℕ, ◌/◌, ◌%◌, ◌==◌, ◌+◌, ◌-◌, true, false, List, [], ◌∷◌, ◌++◌, length, Option, Some, None, refl, sym, ap, ◌∙◌, inl, inr, arith}
 use Rattle.std.specs.Prelude.{◌&&◌, ◌||◌, is_none, is_some, option_map, if◌then◌else◌}
 use Rattle.std.specs.Str.{bytes_eq}
-use Rattle.std.proofs.lemmas.Bool.{and_from, and_left, and_parts, and_right, cases_Bool, or_cases, or_parts}
+use Rattle.std.proofs.lemmas.Bool.{and_from, and_left, and_parts, and_right, cases_Bool, or_cases}
 use Rattle.roam_sessions.specs.Private.Groups.{if_row}
-use Rattle.roam_sessions.specs.Private.Masks.{asked_by, asked_for, is_named, lacks, mask_of, narrow, without_names}
-use Rattle.roam_sessions.specs.Private.Row.{part_text, row_text, whole_row}
+use Rattle.roam_sessions.specs.Private.Masks.{asked_by, asked_for, lacks, mask_of, narrow, without_names}
+use Rattle.roam_sessions.specs.Private.Row.{part_text, row_text}
 use Rattle.roam_sessions.specs.Sessions.{Asked, Session, agrees, agrees_in}
 use Rattle.roam_sessions.proofs.SameLemmas.{number-is, octets-are, octets-same, same-number}
 
@@ -86,21 +86,6 @@ row-is p q e =
     let ipv6s = part-split p.nas.ipv6 q.nas.ipv6 (part_text p.id) (part_text q.id) identifiers.1 in
     asked-is p q (number-of p.peer q.peer high low) addresses.0 identifiers.0 ipv6s.0
     (part-is p.id q.id ipv6s.1)
-
--- a session's row by all that it is, is its own
-id_of : Option (List ℕ) → List ℕ
-id_of None = []
-id_of (Some id) = id
-
-named_by : Asked → Session
-named_by q = record { peer = q.peer; nas = q.nas; id = id_of q.id }
-
-session-is : (a b : Session) → asked_for a ≡ asked_for b → a ≡ b
-unfolding id_of named_by
-session-is a b same = ap named_by same
-
-pub whole-is : (a b : Session) → whole_row a ≡ whole_row b → a ≡ b
-whole-is a b e = session-is a b (row-is (asked_for a) (asked_for b) e)
 
 -- a part agrees just where it is the one that is chosen
 chosen : Option (List ℕ) → Option (List ℕ) → Option (List ℕ)
@@ -235,27 +220,3 @@ module _ (q : Asked) (s : Session) where
       let e = agrees-is h in
       asked-is (without_names q) (without_names (asked_for s)) (ap (λ (p : Asked). p.peer) e) refl refl refl
       (ap (λ (p : Asked). p.id) e ∙ rw there refl)
-
-  -- a session that has a name isn't what is asked for without names
-  pub named-apart : is_named s ≡ true → bytes_eq (row_text (without_names q)) (whole_row s) ≡ false
-  named-apart named = elim (cases_Bool (bytes_eq (row_text (without_names q)) (whole_row s))) [
-    | inr apart ↦ apart
-    | inl same ↦ absurd (
-        let is = row-is (without_names q) (asked_for s)
-        (octets-are (row_text (without_names q)) (whole_row s) same) in
-        let none : is_named s ≡ false =
-        ap (λ (x : Asked). is_some x.nas.address || is_some x.nas.identifier || is_some x.nas.ipv6) (sym is) in
-        cc (named, none))
-  ]
-
--- one that has none is
-none-part : (o : Option (List ℕ)) → is_some o ≡ false → None ≡ o
-none-part None h = refl
-none-part (Some x) h = absurd (cc h)
-
-pub unnamed-whole : (s : Session) → is_named s ≡ false → without_names (asked_for s) ≡ asked_for s
-unnamed-whole s none =
-    let outer = or_parts (is_some s.nas.address || is_some s.nas.identifier) (is_some s.nas.ipv6) none in
-    let inner = or_parts (is_some s.nas.address) (is_some s.nas.identifier) outer.0 in
-    asked-is (without_names (asked_for s)) (asked_for s) refl (none-part s.nas.address inner.0)
-    (none-part s.nas.identifier inner.1) (none-part s.nas.ipv6 outer.1) refl

@@ -1,63 +1,20 @@
--- Sessions by all that they are, and the one that makes way.
+-- The sessions of a peer, and the one that makes way.
 use Rattle.std.proofs.Common.{◌≡◌, ℕ, ◌<◌, ◌≤◌, ◌==◌, Bool, true, false, List, [], ◌∷◌, length, Option, Some, None, refl, sym, ap, ◌∙◌, subst, inl, inr, arith}
-use Rattle.std.specs.Prelude.{◌&&◌, IsSome, filter, nat_le, not, option_and_then, option_map}
+use Rattle.std.specs.Prelude.{◌&&◌, IsSome, filter, nat_le, not, option_and_then}
 use Rattle.std.proofs.lemmas.Bool.{cases_Bool, cases_eq, cases_lt, not_from_false}
 use Rattle.std.proofs.lemmas.Bool.Decides.{nat_tests}
 use Rattle.roam_wire.specs.Numbered.{PutsAt, tickets_end}
-use Rattle.roam_sessions.specs.Facets.{ComesIn, masked, rows_under}
-use Rattle.roam_sessions.specs.Private.Groups.{AreEnds, AreEndsOf, Comes, Goes, IsGrouped, IsOldestOfMost, PlainGroups, in_group}
-use Rattle.roam_sessions.specs.Private.Row.{row_text, row_under, whole_row}
-use Rattle.roam_sessions.specs.Private.Tickets.{IsNoted, IsOneOf, IsTicketOf, all_listed}
+use Rattle.roam_sessions.specs.Facets.{masked, rows_under}
+use Rattle.roam_sessions.specs.Private.Groups.{AreEnds, AreEndsOf, IsGrouped, IsOldestOfMost, PlainGroups, in_group}
+use Rattle.roam_sessions.specs.Private.Row.{row_text, row_under}
+use Rattle.roam_sessions.specs.Private.Tickets.{IsOneOf, all_listed}
 use Rattle.roam_sessions.specs.Sessions.{Asked, Session, agrees, count_of_peer, has_most, no_nas, without_agreeing, without_first, without_peer}
-use Rattle.roam_sessions.specs.Stands.{whole_rows}
 use Rattle.roam_sessions.specs.declared.ends.Ends.{Ends}
 use Rattle.roam_sessions.proofs.FacetLemmas.{agreeing-counted, agrees-held}
 use Rattle.roam_sessions.proofs.GroupLemmas.{ends-there, from-group}
 use Rattle.roam_sessions.proofs.ListedTestLemmas.{all-pass, all-stay, each-passes, first-gone}
 use Rattle.roam_sessions.proofs.NeighbourLemmas.{held-some}
-use Rattle.roam_sessions.proofs.RowLemmas.{whole-is}
 use Rattle.roam_sessions.proofs.SameLemmas.{same-number}
-
--- a session comes into the group of its own row, and goes out of it
-pub comes-whole : (F G : ℕ → Option Session) (t : ℕ) (s : Session) (w : List ℕ) → w ≡ whole_row s → ComesIn F G t s
-    → Comes (whole_rows F) (whole_rows G) t (Some w)
-comes-whole F G t s w is comes = record {
-  puts = record {
-    changed = ap (option_map whole_row) comes.puts.changed ∙ ap (λ (l : List ℕ). Some l) (sym is);
-    others = λ u ne. ap (option_map whole_row) (comes.puts.others u ne);
-  };
-  free = λ u le. ap (option_map whole_row) (comes.free u le);
-  within = comes.within;
-}
-
-pub goes-whole : (F G : ℕ → Option Session) (t : ℕ) (s : Session) (w : List ℕ) → w ≡ whole_row s → F t ≡ Some s
-    → PutsAt F G t None → Goes (whole_rows F) (whole_rows G) t (Some w)
-goes-whole F G t s w is at goes = record {
-  was = ap (option_map whole_row) at ∙ ap (λ (l : List ℕ). Some l) (sym is);
-  puts = record {
-    changed = ap (option_map whole_row) goes.changed;
-    others = λ u ne. ap (option_map whole_row) (goes.others u ne);
-  };
-}
-
--- a ticket whose row is a session's own is that session's
-pub row-of-session : (F : ℕ → Option Session) (t : ℕ) (s : Session) → whole_rows F t ≡ Some (whole_row s) → F t ≡ Some s
-row-of-session F t s is = by (F t) refl
-  where
-    by : (o : Option Session) → F t ≡ o → F t ≡ Some s
-    by None at = absurd (let k : whole_rows F t ≡ None = ap (option_map whole_row) at in cc (k, is))
-    by (Some x) at = (
-        let both : Some (whole_row x) ≡ Some (whole_row s) = sym (ap (option_map whole_row) at) ∙ is in
-        let rows : whole_row x ≡ whole_row s = cc both in
-        at ∙ ap (λ (z : Session). Some z) (whole-is x s rows))
-
-pub found-whole : (F : ℕ → Option Session) (w : List ℕ → Option ℕ) (s : Session) → IsNoted (whole_rows F) w
-    → IsTicketOf s F (w (whole_row s))
-found-whole F w s noted = by (w (whole_row s)) refl
-  where
-    by : (o : Option ℕ) → w (whole_row s) ≡ o → IsTicketOf s F o
-    by None none = λ t at. absurd (let k = noted.noted t (whole_row s) (ap (option_map whole_row) at) in cc (k, none))
-    by (Some t) at = row-of-session F t s (noted.found (whole_row s) t at)
 
 -- the sessions of a peer
 abbrev pub of_peer : ℕ → Asked

@@ -2,8 +2,9 @@
 use Rattle.std.specs.Prelude.{◌≡◌, ℕ, ◌≤◌, false, List, Option, option_map, nat_eq}
 use Rattle.std.specs.Cmp.Lexicographic.{pointwise}
 use Rattle.indexmap.specs.IndexMap as map
-use Rattle.indexmap.specs.IndexMap.{IndexMap, spare}
+use Rattle.indexmap.specs.IndexMap.{IndexMap, index_map_len, spare}
 use Rattle.roam_sessions.specs.Kept.{kept_session}
+use Rattle.roam_sessions.specs.Private.Buckets.{in_bucket}
 use Rattle.roam_sessions.specs.Private.Groups.{PlainGroups}
 use Rattle.roam_sessions.specs.Private.Links.{beside_of, is_facet}
 use Rattle.roam_sessions.specs.Sessions.{Session}
@@ -13,7 +14,7 @@ use Rattle.roam_sessions.specs.declared.groups.Groups.{Groups}
 use Rattle.roam_sessions.specs.declared.kept_row.KeptRow.{KeptRow}
 use Rattle.roam_sessions.specs.declared.links.Facet.{Facet}
 use Rattle.roam_sessions.specs.declared.links.Links.{Links}
-use Rattle.roam_sessions.specs.declared.packed_session.OpenSession.{OpenSession}
+use Rattle.roam_sessions.specs.declared.session_map.LinkedSession.{LinkedSession}
 
 -- what a row has
 abbrev pub row_at : {Z X H : Type 0} → IndexMap (KeptRow Z) X H → List ℕ → Option X
@@ -23,27 +24,38 @@ row_at m row = map.get_by (λ k. pointwise nat_eq row k.octets.items) m
 abbrev pub ends_at : {Z H : Type 0} → IndexMap (KeptRow Z) Ends H → List ℕ → Option Ends
 ends_at m = row_at m
 
--- the number of a row
-abbrev pub number_at : {Z H : Type 0} → IndexMap (KeptRow Z) ℕ H → List ℕ → Option ℕ
-number_at m = row_at m
+-- the ends of the group of a bucket
+abbrev pub ends_by : {H : Type 0} → IndexMap ℕ Ends H → ℕ → Option Ends
+ends_by m bucket = map.get nat_eq m bucket
 
 -- the neighbours of a number
 abbrev pub beside_at : {H : Type 0} → IndexMap ℕ Beside H → ℕ → Option Beside
 beside_at m t = map.get nat_eq m t
 
--- the neighbours of a number in all its groups, and in that of a facet
-abbrev pub links_at : {H : Type 0} → IndexMap ℕ Links H → ℕ → Option Links
-links_at m t = map.get nat_eq m t
+-- the session of a ticket's row
+abbrev pub linked_session : {A : Type 0} → LinkedSession A → Session
+linked_session linked = kept_session linked.session
 
-abbrev pub linked_at : {H : Type 0} → Facet → IndexMap ℕ Links H → ℕ → Option Beside
+-- the neighbours of a number in all its groups, and in that of a facet
+abbrev pub links_at : {A H : Type 0} → IndexMap ℕ (LinkedSession A) H → ℕ → Option Links
+links_at m t = option_map (λ s. s.links) (map.get nat_eq m t)
+
+abbrev pub linked_at : {A H : Type 0} → Facet → IndexMap ℕ (LinkedSession A) H → ℕ → Option Beside
 linked_at facet m t = option_map (beside_of facet) (links_at m t)
 
+abbrev pub linked_by : {A H : Type 0} → IndexMap ℕ (LinkedSession A) H → Facet → ℕ → Option Beside
+linked_by m facet = linked_at facet m
+
 -- the groups of a facet
-abbrev pub linked : {Z H I : Type 0} → Facet → IndexMap (KeptRow Z) Ends H → IndexMap ℕ Links I → PlainGroups
+abbrev pub linked : {Z A H I : Type 0} → Facet → IndexMap (KeptRow Z) Ends H → IndexMap ℕ (LinkedSession A) I → PlainGroups
 linked facet ends links = record { ends = ends_at ends; beside = linked_at facet links }
 
+-- the groups of buckets
+abbrev pub chained : {A H I : Type 0} → Facet → IndexMap ℕ Ends H → IndexMap ℕ (LinkedSession A) I → PlainGroups
+chained facet ends links = record { ends = in_bucket (ends_by ends); beside = linked_at facet links }
+
 -- the neighbours in the groups of all other facets stay
-abbrev pub OthersStay : {H : Type 0} → Facet → IndexMap ℕ Links H → IndexMap ℕ Links H → Type 0
+abbrev pub OthersStay : {A H : Type 0} → Facet → IndexMap ℕ (LinkedSession A) H → IndexMap ℕ (LinkedSession A) H → Type 0
 OthersStay facet m n =
     (other : Facet) → is_facet other facet ≡ false → (u : ℕ) → linked_at other n u ≡ linked_at other m u
 
@@ -56,5 +68,11 @@ pub record HasRoom {A : Type 0} (n : ℕ) (g : Groups A) : Type 0 where
   pub beside : n ≤ spare g.beside
 
 -- the session of a ticket
-abbrev pub session_of : {A H : Type 0} → IndexMap ℕ (OpenSession A) H → ℕ → Option Session
-session_of m t = option_map kept_session (map.get nat_eq m t)
+abbrev pub session_of : {A H : Type 0} → IndexMap ℕ (LinkedSession A) H → ℕ → Option Session
+session_of m t = option_map linked_session (map.get nat_eq m t)
+
+-- the sessions stay, whatever their neighbours are
+pub record SessionsStay {A H : Type 0} (m n : IndexMap ℕ (LinkedSession A) H) : Type 0 where
+  pub sessions : (t : ℕ) → session_of n t ≡ session_of m t
+  pub len : index_map_len n ≡ index_map_len m
+  pub room : spare n ≡ spare m

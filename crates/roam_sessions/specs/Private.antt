@@ -2,6 +2,7 @@
 pub mod Packed
 pub mod Masks
 pub mod Row
+pub mod Buckets
 pub mod Tickets
 pub mod Groups
 pub mod Links

@@ -1,11 +1,10 @@
 -- The meaning of the code's chain of sessions (ours).
-use Rattle.std.specs.Prelude.{◌≡◌, ℕ, ◌+◌, ◌<◌, ◌≤◌, List, length, Option, Some, None, option_map}
+use Rattle.std.specs.Prelude.{◌≡◌, ℕ, ◌+◌, ◌<◌, ◌≤◌, List, length, Option, Some, None}
 use Rattle.indexmap.specs.IndexMap.{index_map_len, spare}
 use Rattle.roam_wire.specs.Numbered.{tickets_end}
 use Rattle.roam_sessions.specs.Facets.{AreFaceted, FacetsHaveRoom}
-use Rattle.roam_sessions.specs.Maps.{number_at, session_of}
-use Rattle.roam_sessions.specs.Private.Row.{whole_row}
-use Rattle.roam_sessions.specs.Private.Tickets.{IsNoted, all_listed}
+use Rattle.roam_sessions.specs.Maps.{linked_by, session_of}
+use Rattle.roam_sessions.specs.Private.Tickets.{all_listed}
 use Rattle.roam_sessions.specs.Sessions.{Session}
 use Rattle.roam_sessions.specs.declared.chain.Chain.{Chain}
 
@@ -20,10 +19,6 @@ sessions_of c = all_listed (session_at c)
 abbrev pub session_count : {A : Type 0} → Chain A → ℕ
 session_count c = index_map_len c.by_ticket
 
--- each ticket's row by all that its session is
-abbrev pub whole_rows : (ℕ → Option Session) → ℕ → Option (List ℕ)
-whole_rows F t = option_map whole_row (F t)
-
 -- the sessions of tickets that were given out, each of one of them
 pub record AreTickets (F : ℕ → Option Session) (next : ℕ) : Type 0 where
   pub distinct : (t u : ℕ) (s : Session) → F t ≡ Some s → F u ≡ Some s → t ≡ u
@@ -33,14 +28,12 @@ pub record AreTickets (F : ℕ → Option Session) (next : ℕ) : Type 0 where
 -- there is room for so many sessions more
 pub record HaveRoom {A : Type 0} (n : ℕ) (c : Chain A) : Type 0 where
   pub by_ticket : n ≤ spare c.by_ticket
-  pub whole : n ≤ spare c.whole
   pub of_peer : FacetsHaveRoom n c.of_peer
 
 -- a chain's parts fit each other, and what room was made is there, and tickets that are left
 pub record IsSound {A : Type 0} (c : Chain A) : Type 0 where
   pub tickets : AreTickets (session_at c) c.next
-  pub whole : IsNoted (whole_rows (session_at c)) (number_at c.whole)
-  pub of_peer : AreFaceted (session_at c) c.of_peer
+  pub of_peer : AreFaceted (session_at c) c.of_peer (linked_by c.by_ticket)
   pub count : length (sessions_of c) ≡ session_count c
   pub room : HaveRoom c.spare c
   pub ticket_room : c.next + c.spare < tickets_end

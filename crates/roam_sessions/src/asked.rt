@@ -2,7 +2,7 @@
 
 ghost use Rattle.std.specs.Prelude.{◌≡◌, option_map};
 ghost use Rattle.roam_sessions.specs.Sessions.{counted_nas, nas_in, no_nas};
-ghost use Rattle.roam_sessions.specs.Private.Masks.{asked_for, by_id, is_named, narrow, without_names};
+ghost use Rattle.roam_sessions.specs.Private.Masks.{asked_for, narrow, without_names};
 ghost use Rattle.roam_sessions.specs.Kept.{shown_asked, shown_nas, shown_session};
 
 use crate::nas_target::NAS_IPV6_ADDRESS;
@@ -114,24 +114,6 @@ impl<'a> SessionRef<'a> {
             },
             id: if mask.id { Some(self.id) } else { None },
         })
-    }
-
-    /// Returns whether its access server has a name.
-    fn is_named(self) -> bool
-        ensures { result ≡ is_named (shown_session self.entry) }
-    {
-        self.nas.address.is_some() || self.nas.identifier.is_some() || self.nas.ipv6.is_some()
-    }
-
-    /// Returns what is asked for this session by its id alone. One without names is found so by all that it is.
-    pub(crate) fn by_id(self) -> Option<AskedRef<'a>>
-        ensures { option_map shown_asked result ≡ by_id (shown_session self.entry) }
-    {
-        if self.is_named() {
-            Some(self.asked().without_names())
-        } else {
-            None
-        }
     }
 }
 

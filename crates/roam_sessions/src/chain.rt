@@ -3,36 +3,29 @@
 ghost use Rattle.std.specs.Prelude.{◌≡◌, ◌≢◌, ℕ, ◌+◌, ◌-◌, ◌<◌, ◌≤◌, [], ◌∷◌, ◌++◌, false};
 ghost use Rattle.std.specs.Prelude.{None, Some, IsOk, IsSome, OnOk, OnErr, filter, is_some, length};
 ghost use Rattle.std.specs.Prelude.{option_map};
-ghost use Rattle.roam_sessions.specs.Private.Tickets.{IsOneOf, IsTicketOf, NoneBefore};
+ghost use Rattle.roam_sessions.specs.Private.Tickets.{IsOneOf, NoneBefore};
 ghost use Rattle.roam_sessions.specs.Sessions.{agrees, has_most, within, without_first};
 ghost use Rattle.roam_sessions.specs.Kept.{kept_session, shown_asked, shown_session};
 ghost use Rattle.roam_sessions.specs.Parts.{shown_parts};
 ghost use Rattle.roam_sessions.specs.Stands.{IsSound, session_at, session_count, sessions_of};
-ghost use Rattle.roam_sessions.specs.Maps.{session_of};
-ghost use Rattle.indexmap.specs.IndexMap.{index_map_len, spare};
+ghost use Rattle.indexmap.specs.IndexMap.{spare};
 ghost use Rattle.roam_wire.specs.Numbered.{PutsAt};
 
 use crate::asked::{AskedRef, SessionRef};
 use crate::facets::Facets;
 use crate::open_session::NewSession;
-use crate::packed_session::OpenSession;
 use crate::parts::SessionParts;
-use crate::row::Row;
-use crate::wholes::{Wholes, forget_number, note_number, number_of};
+use crate::session::SessionArray;
+use crate::session_map::SessionMap;
 use indexmap::IndexMap;
 use roam_random::HashKey;
 use roam_wire::NoMemory;
 use std::alloc::Allocator;
-use std::hash::{BuildHasherDefault, FoldHasher};
-
-/// The session of each ticket. Nobody outside picks tickets.
-pub(crate) type ByTicket<A> = IndexMap<u64, OpenSession<A>, BuildHasherDefault<FoldHasher>, A>;
 
 /// Sessions in the order in which they were opened. Each has a ticket, and these rise. They are found by all that they
 /// are, by the names of their access servers, and by the id.
 pub(crate) struct Chain<A: Allocator> {
-    pub(crate) by_ticket: ByTicket<A>,
-    pub(crate) whole: Wholes<A>,
+    pub(crate) by_ticket: SessionMap<A>,
     pub(crate) of_peer: Facets<A>,
     /// The ticket of the session that is opened next.
     pub(crate) next: u64,
@@ -44,49 +37,24 @@ impl<A: Allocator> Drop for Chain<A> {
     fn drop(self) {
         let Self {
             by_ticket,
-            whole,
             of_peer,
             next: _,
             spare: _,
         } = self;
         drop(by_ticket);
-        drop(whole);
         drop(of_peer);
     }
 }
 
-/// Puts a session at a ticket that none has, where there is room. Takes no memory.
-fn put<A: Allocator + Copy>(map: &mut ByTicket<A>, ticket: u64, session: OpenSession<A>)
-    requires room { 0 < spare map.old }
-    requires free { session_of map.old ticket ≡ None }
-    ensures puts { PutsAt (session_of map.old) (session_of map.new) ticket (Some (kept_session session)) }
-    ensures len { index_map_len map.new ≡ index_map_len map.old + 1 }
-    ensures room { spare map.old ≤ spare map.new + 1 }
-{
-    let _old = map.insert(ticket, session).unwrap();
-}
-
-/// Takes the session of a ticket out.
-fn take<A: Allocator + Copy>(map: &mut ByTicket<A>, ticket: u64) -> OpenSession<A>
-    requires { IsSome (session_of map.old ticket) }
-    ensures was { session_of map.old ticket ≡ Some (kept_session result) }
-    ensures puts { PutsAt (session_of map.old) (session_of map.new) ticket None }
-    ensures len { index_map_len map.new + 1 ≡ index_map_len map.old }
-    ensures room { spare map.old ≤ spare map.new }
-{
-    map.swap_remove(&ticket).unwrap()
-}
-
 impl<A: Allocator + Copy> Chain<A> {
-    /// Makes a chain without sessions. Takes no memory.
-    pub(crate) fn new(alloc: A, key: HashKey) -> Chain<A>
+    /// Makes a chain without sessions, for at most so many. Takes no memory.
+    pub(crate) fn new(alloc: A, key: HashKey, limit: u32) -> Chain<A>
         ensures sound { IsSound result }
         ensures empty { sessions_of result ≡ [] }
     {
         Chain {
             by_ticket: IndexMap::new(alloc),
-            whole: IndexMap::with_hasher(alloc, key),
-            of_peer: Facets::new(alloc, key),
+            of_peer: Facets::new(alloc, key, limit),
             next: 0,
             spare: 0,
         }
@@ -97,20 +65,6 @@ impl<A: Allocator + Copy> Chain<A> {
         ensures { result ≡ session_count self.now }
     {
         self.by_ticket.len()
-    }
-
-    /// Finds the ticket of a session.
-    pub(crate) fn find(&self, session: SessionRef<'_>) -> Option<u64>
-        ensures { IsSound self.now → IsTicketOf (shown_session session.entry) (session_at self.now) result }
-    {
-        number_of(&self.whole, Row::of(session.asked()).as_slice())
-    }
-
-    /// Finds the ticket of a session that is to be opened, where it is there: by the row that it has.
-    pub(crate) fn find_new(&self, new: &NewSession<A>) -> Option<u64>
-        ensures { IsSound self.now → IsTicketOf (kept_session new.now.session) (session_at self.now) result }
-    {
-        number_of(&self.whole, new.whole.as_slice())
     }
 
     /// Makes room for one session more. No session changes. There is none once the tickets are used
@@ -133,7 +87,6 @@ impl<A: Allocator + Copy> Chain<A> {
             return Err(NoMemory);
         }
         self.by_ticket.reserve(1)?;
-        self.whole.reserve(1)?;
         self.of_peer.reserve()?;
         self.spare = 1;
         Ok(())
@@ -153,9 +106,7 @@ impl<A: Allocator + Copy> Chain<A> {
         ensures count { session_count self.new ≡ session_count self.old + 1 }
     {
         let ticket = self.next;
-        put(&mut self.by_ticket, ticket, new.session);
-        note_number(&mut self.whole, new.whole, ticket);
-        self.of_peer.append(ticket, new.of_peer);
+        self.of_peer.append(&mut self.by_ticket, ticket, new);
         self.next = ticket + 1;
         self.spare -= 1;
     }
@@ -170,9 +121,9 @@ impl<A: Allocator + Copy> Chain<A> {
         ensures count { session_count self.new + 1 ≡ session_count self.old }
         ensures room { self.new.spare ≡ self.old.spare }
     {
-        let session = take(&mut self.by_ticket, ticket);
-        forget_number(&mut self.whole, Row::of(session.lend().asked()).as_slice());
-        self.of_peer.remove(ticket, session.lend());
+        let session = SessionArray::copy_of(self.session(ticket).unwrap());
+        self.of_peer
+            .remove(&mut self.by_ticket, ticket, session.lend());
     }
 
     /// Takes the oldest session of the peer that has most out; of several that have most, the oldest of all theirs.
@@ -235,7 +186,7 @@ impl<A: Allocator + Copy> Chain<A> {
         ensures { option_map shown_session result ≡ session_at self.now ticket }
     {
         match self.by_ticket.get(&ticket) {
-            Some(session) => Some(session.lend()),
+            Some(linked) => Some(linked.session.lend()),
             None => None,
         }
     }
@@ -245,7 +196,7 @@ impl<A: Allocator + Copy> Chain<A> {
         ensures { option_map shown_parts result ≡ session_at self.now ticket }
     {
         match self.by_ticket.get(&ticket) {
-            Some(session) => Some(session.parts()),
+            Some(linked) => Some(linked.session.parts()),
             None => None,
         }
     }

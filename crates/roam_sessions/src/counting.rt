@@ -3,19 +3,19 @@
 ghost use Rattle.std.specs.Prelude.{◌≡◌, filter, is_some, length, true};
 ghost use Rattle.roam_sessions.specs.Ended.{IsTable, agreeing_at, open_count, open_sessions, where_open};
 ghost use Rattle.roam_sessions.specs.Kept.{shown_asked};
-ghost use Rattle.roam_sessions.specs.Facets.{id_rows};
+ghost use Rattle.roam_sessions.specs.Facets.{id_buckets};
+ghost use Rattle.roam_sessions.specs.Private.Buckets.{bucket_text};
 ghost use Rattle.roam_sessions.specs.Private.Groups.{in_group};
 ghost use Rattle.roam_sessions.specs.Private.Tickets.{all_listed};
 ghost use Rattle.roam_sessions.specs.Sessions.{agrees};
 ghost use Rattle.roam_sessions.specs.Stands.{session_at};
 
 use crate::asked::AskedRef;
+use crate::bucket_ends::{count_of, oldest_of};
 use crate::ended::agrees;
-use crate::ends::{count_in, oldest_in};
 use crate::links::{Facet, newer_in};
 use crate::row::Row;
 use crate::table::Table;
-use crate::wholes::number_of;
 use std::alloc::Allocator;
 
 impl<A: Allocator + Copy> Table<A> {
@@ -32,31 +32,30 @@ impl<A: Allocator + Copy> Table<A> {
         if agrees(asked, session) { 1 } else { 0 }
     }
 
-    /// Returns how many tickets of the group of a peer and an id are those of open sessions that agree with what is
+    /// Returns how many tickets of a bucket by the peer and the id are those of open sessions that agree with what is
     /// asked.
-    fn count_agreeing(&self, asked: AskedRef<'_>, row: &[u8]) -> usize
+    fn count_agreeing(&self, asked: AskedRef<'_>, bucket: u32) -> usize
         ensures { IsTable self.now → result ≡ length (all_listed (in_group
-            (where_open (agreeing_at (shown_asked asked.entry) self.now) (id_rows (session_at self.now.chain)))
-            row.now)) }
+            (where_open (agreeing_at (shown_asked asked.entry) self.now)
+            (id_buckets self.now.chain.of_peer.buckets (session_at self.now.chain)))
+            (bucket_text bucket))) }
     {
         let mut count = 0usize;
-        let mut at = oldest_in(&self.chain.of_peer.by_id, row);
-        for i in 0..count_in(&self.chain.of_peer.by_id, row) {
+        let mut at = oldest_of(&self.chain.of_peer.by_id, bucket);
+        for i in 0..count_of(&self.chain.of_peer.by_id, bucket) {
             count = count.saturating_add(self.agreeing_of(asked, at));
-            at = newer_in(&self.chain.of_peer.links, Facet::Id, at);
+            at = newer_in(&self.chain.by_ticket, Facet::Id, at);
         }
         count
     }
 
-    /// Returns how many open sessions agree with what is asked, which names an id. It looks at all sessions of the peer
-    /// that have this id: at the one without names, and at the others.
+    /// Returns how many open sessions agree with what is asked, which names an id. It looks at all sessions in the
+    /// bucket of the peer and the id.
     pub(crate) fn count(&self, asked: AskedRef<'_>) -> usize
         ensures { IsTable self.now → is_some (shown_asked asked.entry).id ≡ true
             → result ≡ length (filter (agrees (shown_asked asked.entry)) (open_sessions self.now)) }
     {
         let row = Row::of(asked.without_names());
-        let unnamed = self.agreeing_of(asked, number_of(&self.chain.whole, row.as_slice()));
-        let named = self.count_agreeing(asked, row.as_slice());
-        unnamed.saturating_add(named)
+        self.count_agreeing(asked, self.chain.of_peer.buckets.of(row.as_slice()))
     }
 }

@@ -1,34 +1,39 @@
 //! The sessions of a peer by the names of their access servers: by none of them, by some, by all; and by their ids.
 
-ghost use Rattle.std.specs.Prelude.{◌≡◌, ℕ, ◌+◌, List, Option, None, OnOk, false, filter, is_some, length, option_map};
-ghost use Rattle.roam_sessions.specs.Facets.{AreFaceted, ComesIn, FacetsHaveRoom, HasFacetRows, facet_of};
+ghost use Rattle.std.specs.Prelude.{◌≡◌, ℕ, ◌+◌, ◌<◌, ◌≤◌, List, Option, None, Some, IsSome, OnOk, false, filter};
+ghost use Rattle.std.specs.Prelude.{is_some, length, option_map};
+ghost use Rattle.roam_sessions.specs.Facets.{AreFaceted, ComesIn, FacetsHaveRoom, facet_of};
 ghost use Rattle.roam_sessions.specs.Private.Groups.{Goes, IsGrouped, IsLargest};
 ghost use Rattle.roam_sessions.specs.Private.Row.{row_text};
 ghost use Rattle.roam_sessions.specs.Private.Tickets.{IsOneOf, NoneBefore, all_listed};
 ghost use Rattle.roam_sessions.specs.Sessions.{Session, agrees};
-ghost use Rattle.roam_sessions.specs.Kept.{shown_asked, shown_session};
-ghost use Rattle.roam_sessions.specs.Maps.{HasRoom, ends_at, groups_of, linked};
-ghost use Rattle.roam_sessions.specs.declared.links.Facet.TheVariants as facet;
+ghost use Rattle.roam_sessions.specs.Kept.{kept_session, shown_asked, shown_session};
+ghost use Rattle.roam_sessions.specs.Maps.{HasRoom, ends_at, groups_of, linked_by, session_of};
+ghost use Rattle.roam_sessions.specs.declared.links.Facet.{Facet};
+ghost use Rattle.roam_sessions.specs.declared.neighbours.Beside.{Beside};
+ghost use Rattle.indexmap.specs.IndexMap.{index_map_len, spare};
 ghost use Rattle.roam_wire.specs.Numbered.{PutsAt};
 
 use crate::asked::{AskedRef, SessionRef};
+use crate::bucket_ends::{BucketEnds, reserve_buckets};
+use crate::bucketed::{enter_bucket, leave_bucket};
+use crate::buckets::Buckets;
 use crate::ends::{GroupEnds, count_in, oldest_in, oldest_of_largest, reserve_ends};
 use crate::groups::Groups;
 use crate::linked::{join, part};
-use crate::links::{Facet, LinkMap, begin, end, reserve_links};
+use crate::links::Facet;
+use crate::open_session::NewSession;
 use crate::row::Row;
-use crate::session_rows::{FacetRows, mask};
+use crate::session_map::{SessionMap, put, take};
+use crate::session_rows::mask;
 use indexmap::IndexMap;
 use roam_random::HashKey;
 use roam_wire::NoMemory;
 use std::alloc::Allocator;
 
 /// Tickets of sessions in groups: by the peer, by the peer and some of the access server's names, where a session has
-/// them, and by the peer and the id, where a session has any of those names.
+/// them; by the bucket of the peer and the id, and by the bucket of all parts.
 pub(crate) struct Facets<A: Allocator> {
-    /// The neighbours of each ticket in the groups that have ends here. Few sessions have a NAS-IPv6-Address, so the
-    /// groups by that one keep their own.
-    pub(crate) links: LinkMap<A>,
     pub(crate) by_peer: GroupEnds<A>,
     pub(crate) by_address: GroupEnds<A>,
     pub(crate) by_identifier: GroupEnds<A>,
@@ -37,14 +42,15 @@ pub(crate) struct Facets<A: Allocator> {
     pub(crate) by_address_ipv6: Groups<A>,
     pub(crate) by_identifier_ipv6: Groups<A>,
     pub(crate) by_all: Groups<A>,
-    pub(crate) by_id: GroupEnds<A>,
+    pub(crate) by_id: BucketEnds<A>,
+    pub(crate) by_whole: BucketEnds<A>,
+    pub(crate) buckets: Buckets,
 }
 
 // By hand, so that a proof sees one call wherever they end, and not each of their maps.
 impl<A: Allocator> Drop for Facets<A> {
     fn drop(self) {
         let Self {
-            links,
             by_peer,
             by_address,
             by_identifier,
@@ -54,8 +60,9 @@ impl<A: Allocator> Drop for Facets<A> {
             by_identifier_ipv6,
             by_all,
             by_id,
+            by_whole,
+            buckets: _,
         } = self;
-        drop(links);
         drop(by_peer);
         drop(by_address);
         drop(by_identifier);
@@ -65,6 +72,7 @@ impl<A: Allocator> Drop for Facets<A> {
         drop(by_identifier_ipv6);
         drop(by_all);
         drop(by_id);
+        drop(by_whole);
     }
 }
 
@@ -83,12 +91,12 @@ impl<A: Allocator + Copy> Groups<A> {
 }
 
 impl<A: Allocator + Copy> Facets<A> {
-    /// Makes the groups without sessions. Takes no memory.
-    pub(crate) fn new(alloc: A, key: HashKey) -> Facets<A>
-        ensures { (F : ℕ → Option Session) → ((t : ℕ) → F t ≡ None) → AreFaceted F result }
+    /// Makes the groups without sessions, for at most so many. Takes no memory.
+    pub(crate) fn new(alloc: A, key: HashKey, limit: u32) -> Facets<A>
+        ensures { (F : ℕ → Option Session) (b : Facet → ℕ → Option Beside) → ((t : ℕ) → F t ≡ None)
+            → AreFaceted F result b }
     {
         Facets {
-            links: IndexMap::new(alloc),
             by_peer: IndexMap::with_hasher(alloc, key),
             by_address: IndexMap::with_hasher(alloc, key),
             by_identifier: IndexMap::with_hasher(alloc, key),
@@ -97,7 +105,9 @@ impl<A: Allocator + Copy> Facets<A> {
             by_address_ipv6: Groups::new(alloc, key),
             by_identifier_ipv6: Groups::new(alloc, key),
             by_all: Groups::new(alloc, key),
-            by_id: IndexMap::with_hasher(alloc, key),
+            by_id: IndexMap::new(alloc),
+            by_whole: IndexMap::new(alloc),
+            buckets: Buckets::for_limit(key, limit),
         }
     }
 
@@ -105,63 +115,54 @@ impl<A: Allocator + Copy> Facets<A> {
     pub(crate) fn reserve(&mut self) -> Result<(), NoMemory>
         ensures ok { OnOk result (FacetsHaveRoom 1 self.new) }
         ensures room { (n : ℕ) → FacetsHaveRoom n self.old → FacetsHaveRoom n self.new }
-        ensures same { (F : ℕ → Option Session) → AreFaceted F self.old → AreFaceted F self.new }
+        ensures same { (F : ℕ → Option Session) (b : Facet → ℕ → Option Beside) → AreFaceted F self.old b
+            → AreFaceted F self.new b }
     {
-        reserve_links(&mut self.links)?;
         reserve_ends(&mut self.by_peer)?;
         reserve_ends(&mut self.by_address)?;
         reserve_ends(&mut self.by_identifier)?;
         reserve_ends(&mut self.by_both)?;
-        reserve_ends(&mut self.by_id)?;
+        reserve_buckets(&mut self.by_id)?;
+        reserve_buckets(&mut self.by_whole)?;
         self.by_ipv6.reserve()?;
         self.by_address_ipv6.reserve()?;
         self.by_identifier_ipv6.reserve()?;
         self.by_all.reserve()
     }
 
-    /// Puts a session with its rows last, where there is room. Takes no memory.
-    pub(crate) fn append(&mut self, ticket: u64, rows: FacetRows<A>)
-        requires { FacetsHaveRoom 1 self.old }
-        ensures faceted { (F G : ℕ → Option Session) (s : Session) → AreFaceted F self.old
-            → HasFacetRows s rows → ComesIn F G ticket s → AreFaceted G self.new }
+    /// Puts a session with its rows and in its buckets last, where there is room. Takes no memory.
+    pub(crate) fn append(&mut self, map: &mut SessionMap<A>, ticket: u64, new: NewSession<A>)
+        requires facets { FacetsHaveRoom 1 self.old }
+        requires room { 0 < spare map.old }
+        requires free { session_of map.old ticket ≡ None }
+        ensures faceted { (F G : ℕ → Option Session) → AreFaceted F self.old (linked_by map.old)
+            → ComesIn F G ticket (kept_session new.session) → AreFaceted G self.new (linked_by map.new) }
+        ensures sessions { PutsAt (session_of map.old) (session_of map.new) ticket (Some (kept_session new.session)) }
+        ensures len { index_map_len map.new ≡ index_map_len map.old + 1 }
         ensures room { (n : ℕ) → FacetsHaveRoom (n + 1) self.old → FacetsHaveRoom n self.new }
+        ensures map_room { spare map.old ≤ spare map.new + 1 }
     {
-        begin(&mut self.links, ticket);
-        join(
-            &mut self.by_peer,
-            &mut self.links,
-            Facet::Peer,
-            ticket,
-            rows.by_peer,
-        );
+        let places = self.buckets.places(new.session.lend());
+        let rows = new.of_peer;
+        put(map, ticket, new.session);
+        join(&mut self.by_peer, map, Facet::Peer, ticket, rows.by_peer);
         join(
             &mut self.by_address,
-            &mut self.links,
+            map,
             Facet::Address,
             ticket,
             rows.by_address,
         );
         join(
             &mut self.by_identifier,
-            &mut self.links,
+            map,
             Facet::Identifier,
             ticket,
             rows.by_identifier,
         );
-        join(
-            &mut self.by_both,
-            &mut self.links,
-            Facet::Both,
-            ticket,
-            rows.by_both,
-        );
-        join(
-            &mut self.by_id,
-            &mut self.links,
-            Facet::Id,
-            ticket,
-            rows.by_id,
-        );
+        join(&mut self.by_both, map, Facet::Both, ticket, rows.by_both);
+        enter_bucket(&mut self.by_id, map, Facet::Id, ticket, places.id);
+        enter_bucket(&mut self.by_whole, map, Facet::Whole, ticket, places.whole);
         self.by_ipv6.append(ticket, rows.by_ipv6);
         self.by_address_ipv6.append(ticket, rows.by_address_ipv6);
         self.by_identifier_ipv6
@@ -169,25 +170,23 @@ impl<A: Allocator + Copy> Facets<A> {
         self.by_all.append(ticket, rows.by_all);
     }
 
-    /// Takes a session out.
-    pub(crate) fn remove(&mut self, ticket: u64, session: SessionRef<'_>)
-        ensures faceted { (F G : ℕ → Option Session) → AreFaceted F self.old
+    /// Takes the session of a ticket out, which is this one.
+    pub(crate) fn remove(&mut self, map: &mut SessionMap<A>, ticket: u64, session: SessionRef<'_>)
+        requires { IsSome (session_of map.old ticket) }
+        ensures faceted { (F G : ℕ → Option Session) → AreFaceted F self.old (linked_by map.old)
             → F ticket ≡ Some (shown_session session.entry) → PutsAt F G ticket None
-            → AreFaceted G self.new }
+            → AreFaceted G self.new (linked_by map.new) }
+        ensures sessions { PutsAt (session_of map.old) (session_of map.new) ticket None }
+        ensures len { index_map_len map.new + 1 ≡ index_map_len map.old }
         ensures room { (n : ℕ) → FacetsHaveRoom n self.old → FacetsHaveRoom n self.new }
+        ensures map_room { spare map.old ≤ spare map.new }
     {
         let by_peer = session.narrowed(mask(false, false, false, false));
-        part(
-            &mut self.by_peer,
-            &mut self.links,
-            Facet::Peer,
-            ticket,
-            by_peer,
-        );
+        part(&mut self.by_peer, map, Facet::Peer, ticket, by_peer);
         let by_address = session.narrowed(mask(true, false, false, false));
         part(
             &mut self.by_address,
-            &mut self.links,
+            map,
             Facet::Address,
             ticket,
             by_address,
@@ -195,27 +194,16 @@ impl<A: Allocator + Copy> Facets<A> {
         let by_identifier = session.narrowed(mask(false, true, false, false));
         part(
             &mut self.by_identifier,
-            &mut self.links,
+            map,
             Facet::Identifier,
             ticket,
             by_identifier,
         );
         let by_both = session.narrowed(mask(true, true, false, false));
-        part(
-            &mut self.by_both,
-            &mut self.links,
-            Facet::Both,
-            ticket,
-            by_both,
-        );
-        part(
-            &mut self.by_id,
-            &mut self.links,
-            Facet::Id,
-            ticket,
-            session.by_id(),
-        );
-        end(&mut self.links, ticket);
+        part(&mut self.by_both, map, Facet::Both, ticket, by_both);
+        let places = self.buckets.places(session);
+        leave_bucket(&mut self.by_id, map, Facet::Id, ticket, places.id);
+        leave_bucket(&mut self.by_whole, map, Facet::Whole, ticket, places.whole);
         self.by_ipv6
             .leave(ticket, session.narrowed(mask(false, false, true, false)));
         self.by_address_ipv6
@@ -224,6 +212,7 @@ impl<A: Allocator + Copy> Facets<A> {
             .leave(ticket, session.narrowed(mask(false, true, true, false)));
         self.by_all
             .leave(ticket, session.narrowed(mask(true, true, true, false)));
+        take(map, ticket);
     }
 
     /// Returns the ends of the groups in which sessions are found by the names that are asked for.
@@ -244,7 +233,7 @@ impl<A: Allocator + Copy> Facets<A> {
 
     /// Returns how many sessions agree with what is asked, which names no id.
     pub(crate) fn count(&self, asked: AskedRef<'_>) -> usize
-        ensures { (F : ℕ → Option Session) → AreFaceted F self.now
+        ensures { (F : ℕ → Option Session) (b : Facet → ℕ → Option Beside) → AreFaceted F self.now b
             → is_some (shown_asked asked.entry).id ≡ false
             → result ≡ length (filter (agrees (shown_asked asked.entry)) (all_listed F)) }
     {
@@ -253,10 +242,10 @@ impl<A: Allocator + Copy> Facets<A> {
 
     /// Finds the ticket of the oldest session that agrees with what is asked, which names no id.
     pub(crate) fn oldest(&self, asked: AskedRef<'_>) -> Option<u64>
-        ensures agrees { (F : ℕ → Option Session) → AreFaceted F self.now
+        ensures agrees { (F : ℕ → Option Session) (b : Facet → ℕ → Option Beside) → AreFaceted F self.now b
             → is_some (shown_asked asked.entry).id ≡ false
             → IsOneOf (agrees (shown_asked asked.entry)) F result }
-        ensures first { (F : ℕ → Option Session) → AreFaceted F self.now
+        ensures first { (F : ℕ → Option Session) (b : Facet → ℕ → Option Beside) → AreFaceted F self.now b
             → is_some (shown_asked asked.entry).id ≡ false
             → NoneBefore (agrees (shown_asked asked.entry)) F result }
     {
@@ -266,7 +255,8 @@ impl<A: Allocator + Copy> Facets<A> {
     /// Finds the ticket of the oldest session of the peer that has most. Where several peers have most, it is the
     /// oldest of all theirs.
     pub(crate) fn oldest_of_most(&self) -> Option<u64>
-        ensures { IsLargest (linked facet.Peer self.now.by_peer self.now.links) result }
+        ensures { (beside : ℕ → Option Beside)
+            → IsLargest (record { ends = ends_at self.now.by_peer; beside = beside }) result }
     {
         oldest_of_largest(&self.by_peer)
     }

@@ -64,7 +64,7 @@ impl<A: Allocator + Copy> Sessions<A> {
         ensures limit { IfOk result (λ ledger. ledger.limit ≡ limit) }
         ensures sessions { IfOk result (λ ledger. ledger.sessions ≡ []) }
     {
-        match Box::new(alloc, Table::new(alloc, key)) {
+        match Box::new(alloc, Table::new(alloc, key, limit)) {
             Ok(table) => Ok(Sessions {
                 alloc,
                 limit,
@@ -79,7 +79,7 @@ impl<A: Allocator + Copy> Sessions<A> {
         ensures limit { self.new.limit ≡ limit }
         ensures sessions { self.new.sessions ≡ [] }
     {
-        *self.table = Table::new(self.alloc, key);
+        *self.table = Table::new(self.alloc, key, limit);
         self.limit = limit;
     }
 

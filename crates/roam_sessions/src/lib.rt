@@ -32,6 +32,9 @@
 
 mod accounting;
 mod asked;
+mod bucket_ends;
+mod bucketed;
+mod buckets;
 mod chain;
 mod counting;
 mod ended;
@@ -40,6 +43,7 @@ pub mod error_cause;
 mod facets;
 mod fault;
 mod fields;
+mod finding;
 mod freeing;
 mod groups;
 mod item;
@@ -58,11 +62,11 @@ mod reading;
 mod row;
 mod session;
 mod session_laws;
+mod session_map;
 mod session_rows;
 mod short;
 mod short_copies;
 mod table;
-mod wholes;
 mod writing;
 
 pub use error_cause::route_of;

@@ -1,20 +1,16 @@
 //! The neighbours of numbers in their groups of five facets, all of a number in one place.
 
-ghost use Rattle.std.specs.Prelude.{◌≡◌, ◌≢◌, ℕ, ◌<◌, ◌≤◌, ◌+◌, None, Some, IsSome, OnOk, option_and_then, option_map};
-ghost use Rattle.indexmap.specs.IndexMap.{spare};
+ghost use Rattle.std.specs.Prelude.{◌≡◌, ◌≢◌, ℕ, None, Some, option_and_then, option_map};
 ghost use Rattle.roam_sessions.specs.Private.Groups.{newer_at, with_newer_at, with_older_at};
-ghost use Rattle.roam_sessions.specs.Private.Links.{link_of, no_beside, no_number, with_link, written};
-ghost use Rattle.roam_sessions.specs.Maps.{OthersStay, linked_at, links_at};
-ghost use Rattle.roam_wire.specs.Numbered.{PutsAt};
+ghost use Rattle.roam_sessions.specs.Private.Links.{link_of, no_links, no_number, with_link, written};
+ghost use Rattle.roam_sessions.specs.Maps.{OthersStay, SessionsStay, linked_at};
 
 use crate::neighbours::Beside;
-use indexmap::IndexMap;
-use roam_wire::NoMemory;
+use crate::session_map::{SessionMap, links_of, write};
 use std::alloc::Allocator;
-use std::hash::{BuildHasherDefault, FoldHasher};
 
 /// The parts by which sessions are grouped most: the peer, the peer and the address or the identifier of the access
-/// server or both, and the peer and the id.
+/// server or both; and the buckets of the peer and the id, and of all parts.
 #[derive(Clone, Copy)]
 pub(crate) enum Facet {
     Peer,
@@ -22,6 +18,7 @@ pub(crate) enum Facet {
     Identifier,
     Both,
     Id,
+    Whole,
 }
 
 /// The next older and the next newer number of a group; 2^64 - 1 where there is none.
@@ -39,10 +36,26 @@ pub(crate) struct Links {
     pub(crate) identifier: Link,
     pub(crate) both: Link,
     pub(crate) id: Link,
+    pub(crate) whole: Link,
 }
 
-/// The neighbours of each number. Nobody outside picks these numbers.
-pub(crate) type LinkMap<A> = IndexMap<u64, Links, BuildHasherDefault<FoldHasher>, A>;
+/// Returns no neighbours in any group.
+pub(crate) fn no_links() -> Links
+    ensures { result ≡ no_links }
+{
+    let none = Link {
+        older: u64::MAX,
+        newer: u64::MAX,
+    };
+    Links {
+        peer: none,
+        address: none,
+        identifier: none,
+        both: none,
+        id: none,
+        whole: none,
+    }
+}
 
 /// Writes a number, or that there is none.
 fn word_of(number: Option<u64>) -> u64
@@ -72,6 +85,7 @@ fn link_of(links: Links, facet: Facet) -> Link
         Facet::Identifier => links.identifier,
         Facet::Both => links.both,
         Facet::Id => links.id,
+        Facet::Whole => links.whole,
     }
 }
 
@@ -79,62 +93,21 @@ fn link_of(links: Links, facet: Facet) -> Link
 fn with_link(links: Links, facet: Facet, link: Link) -> Links
     ensures { result ≡ with_link facet link links }
 {
-    let Links {
-        peer,
-        address,
-        identifier,
-        both,
-        id,
-    } = links;
+    let mut linked = links;
     match facet {
-        Facet::Peer => Links {
-            peer: link,
-            address,
-            identifier,
-            both,
-            id,
-        },
-        Facet::Address => Links {
-            peer,
-            address: link,
-            identifier,
-            both,
-            id,
-        },
-        Facet::Identifier => Links {
-            peer,
-            address,
-            identifier: link,
-            both,
-            id,
-        },
-        Facet::Both => Links {
-            peer,
-            address,
-            identifier,
-            both: link,
-            id,
-        },
-        Facet::Id => Links {
-            peer,
-            address,
-            identifier,
-            both,
-            id: link,
-        },
+        Facet::Peer => linked.peer = link,
+        Facet::Address => linked.address = link,
+        Facet::Identifier => linked.identifier = link,
+        Facet::Both => linked.both = link,
+        Facet::Id => linked.id = link,
+        Facet::Whole => linked.whole = link,
     }
-}
-
-/// Returns all neighbours of a number.
-fn links_of<A: Allocator + Copy>(map: &LinkMap<A>, number: u64) -> Option<Links>
-    ensures { result ≡ links_at map.now number }
-{
-    map.get(&number).copied()
+    linked
 }
 
 /// Returns the neighbours of a number in its group of a facet.
 pub(crate) fn beside_in<A: Allocator + Copy>(
-    map: &LinkMap<A>,
+    map: &SessionMap<A>,
     facet: Facet,
     number: u64,
 ) -> Option<Beside>
@@ -150,78 +123,9 @@ pub(crate) fn beside_in<A: Allocator + Copy>(
     })
 }
 
-/// Makes room for one number more. Nothing changes.
-pub(crate) fn reserve_links<A: Allocator + Copy>(map: &mut LinkMap<A>) -> Result<(), NoMemory>
-    ensures ok { OnOk result (1 ≤ spare map.new) }
-    ensures room { spare map.old ≤ spare map.new }
-    ensures same { links_at map.new ≡ links_at map.old }
-{
-    map.reserve(1)?;
-    Ok(())
-}
-
-/// Puts a number that has no neighbours yet, where there is room. Takes no memory.
-pub(crate) fn begin<A: Allocator + Copy>(map: &mut LinkMap<A>, number: u64)
-    requires { 0 < spare map.old }
-    ensures puts { (facet : Facet) → PutsAt (linked_at facet map.old) (linked_at facet map.new) number (Some no_beside) }
-    ensures room { spare map.old ≤ spare map.new + 1 }
-{
-    let none = Link {
-        older: u64::MAX,
-        newer: u64::MAX,
-    };
-    put(
-        map,
-        number,
-        Links {
-            peer: none,
-            address: none,
-            identifier: none,
-            both: none,
-            id: none,
-        },
-    );
-}
-
-/// Puts a number with its neighbours, where there is room. Takes no memory.
-fn put<A: Allocator + Copy>(map: &mut LinkMap<A>, number: u64, links: Links)
-    requires { 0 < spare map.old }
-    ensures puts { PutsAt (links_at map.old) (links_at map.new) number (Some links) }
-    ensures room { spare map.old ≤ spare map.new + 1 }
-{
-    let _old = map.insert(number, links).unwrap();
-}
-
-/// Takes a number out, with all its neighbours.
-pub(crate) fn end<A: Allocator + Copy>(map: &mut LinkMap<A>, number: u64)
-    ensures puts { (facet : Facet) → PutsAt (linked_at facet map.old) (linked_at facet map.new) number None }
-    ensures room { spare map.old ≤ spare map.new }
-{
-    take(map, number);
-}
-
-/// The same.
-fn take<A: Allocator + Copy>(map: &mut LinkMap<A>, number: u64)
-    ensures puts { PutsAt (links_at map.old) (links_at map.new) number None }
-    ensures room { spare map.old ≤ spare map.new }
-{
-    map.swap_remove(&number);
-}
-
-/// Writes the neighbours of a number that has some.
-fn write<A: Allocator + Copy>(map: &mut LinkMap<A>, number: u64, links: Links)
-    ensures puts { IsSome (links_at map.old number)
-        → PutsAt (links_at map.old) (links_at map.new) number (Some links) }
-    ensures room { spare map.new ≡ spare map.old }
-{
-    if let Some(place) = map.get_mut(&number) {
-        *place = links;
-    }
-}
-
 /// Gives a number, if there is one, this newer neighbour in its group of a facet from now on.
 pub(crate) fn link_newer<A: Allocator + Copy>(
-    map: &mut LinkMap<A>,
+    map: &mut SessionMap<A>,
     facet: Facet,
     at: Option<u64>,
     newer: Option<u64>,
@@ -229,7 +133,7 @@ pub(crate) fn link_newer<A: Allocator + Copy>(
     ensures numbers { newer ≢ Some no_number → (u : ℕ) → linked_at facet map.new u
         ≡ option_map (with_newer_at at newer u) (linked_at facet map.old u) }
     ensures others { OthersStay facet map.old map.new }
-    ensures room { spare map.new ≡ spare map.old }
+    ensures stay { SessionsStay map.old map.new }
 {
     let Some(number) = at else {
         return;
@@ -246,7 +150,7 @@ pub(crate) fn link_newer<A: Allocator + Copy>(
 
 /// Gives a number, if there is one, this older neighbour in its group of a facet from now on.
 pub(crate) fn link_older<A: Allocator + Copy>(
-    map: &mut LinkMap<A>,
+    map: &mut SessionMap<A>,
     facet: Facet,
     at: Option<u64>,
     older: Option<u64>,
@@ -254,7 +158,7 @@ pub(crate) fn link_older<A: Allocator + Copy>(
     ensures numbers { older ≢ Some no_number → (u : ℕ) → linked_at facet map.new u
         ≡ option_map (with_older_at at older u) (linked_at facet map.old u) }
     ensures others { OthersStay facet map.old map.new }
-    ensures room { spare map.new ≡ spare map.old }
+    ensures stay { SessionsStay map.old map.new }
 {
     let Some(number) = at else {
         return;
@@ -271,7 +175,7 @@ pub(crate) fn link_older<A: Allocator + Copy>(
 
 /// Returns the next newer number of the group of a facet, of a number that may not be given.
 pub(crate) fn newer_in<A: Allocator + Copy>(
-    map: &LinkMap<A>,
+    map: &SessionMap<A>,
     facet: Facet,
     number: Option<u64>,
 ) -> Option<u64>

@@ -3,13 +3,11 @@
 ghost use Rattle.std.specs.Prelude.{◌≡◌, ◌≤◌, ◌+◌, ◌++◌, IfOk, OnOk, length, option_map};
 ghost use Rattle.roam_sessions.specs.Facets.{HasFacetRows};
 ghost use Rattle.roam_sessions.specs.Private.Packed.{behind, count_of, front_of, octets_of, size_of};
-ghost use Rattle.roam_sessions.specs.Private.Row.{whole_row};
 ghost use Rattle.roam_sessions.specs.Kept.{kept_session, shown_session};
 ghost use Rattle.roam_sessions.specs.Short.{shown_short};
 
 use crate::asked::{NasRef, SessionRef};
 use crate::packed_session::OpenSession;
-use crate::row::row_of;
 use crate::session_rows::{FacetRows, facet_rows};
 use crate::short::Short;
 use roam_wire::{NoMemory, Octets};
@@ -118,13 +116,11 @@ impl<A: Allocator> OpenSession<A> {
     }
 }
 
-/// A session that is to be opened, with the rows by which it is found: its own, and those by some of its parts.
+/// A session that is to be opened, with the rows of its peer and names.
 #[derive(Drop)]
 pub(crate) struct NewSession<A: Allocator> {
     pub(crate) session: OpenSession<A>,
-    pub(crate) whole: Vec<u8, A>,
     pub(crate) of_peer: FacetRows<A>,
-    ghost whole_is: { whole.items ≡ whole_row (kept_session session) },
     ghost of_peer_are: { HasFacetRows (kept_session session) of_peer },
 }
 
@@ -134,11 +130,9 @@ impl<A: Allocator + Copy> NewSession<A> {
         ensures { IfOk result (λ new. kept_session new.session ≡ shown_session session.entry) }
     {
         let kept = OpenSession::copy_of(alloc, session)?;
-        let whole = row_of(alloc, session.asked())?;
         let of_peer = facet_rows(alloc, session)?;
         Ok(NewSession {
             session: kept,
-            whole,
             of_peer,
         })
     }

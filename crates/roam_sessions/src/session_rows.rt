@@ -1,16 +1,15 @@
-//! The rows of a session's parts, by which it is found.
+//! The rows of a session's peer and names, by which it is found.
 
-ghost use Rattle.std.specs.Prelude.{◌≡◌, IfOk, option_map};
-ghost use Rattle.roam_sessions.specs.Facets.{HasFacetRows, HasRow, HasText};
-ghost use Rattle.roam_sessions.specs.Private.Row.{row_text};
-ghost use Rattle.roam_sessions.specs.Kept.{shown_asked, shown_session};
+ghost use Rattle.std.specs.Prelude.{◌≡◌, IfOk};
+ghost use Rattle.roam_sessions.specs.Facets.{HasFacetRows, HasRow};
+ghost use Rattle.roam_sessions.specs.Kept.{shown_session};
 
-use crate::asked::{AskedRef, Mask, SessionRef};
+use crate::asked::{Mask, SessionRef};
 use crate::row::row_of;
 use roam_wire::NoMemory;
 use std::alloc::Allocator;
 
-/// The rows of a session: by the peer, by the names of its access server, and by the id.
+/// The rows of a session: by the peer, and by the names of its access server.
 #[derive(Drop)]
 pub(crate) struct FacetRows<A: Allocator> {
     pub(crate) by_peer: Option<Vec<u8, A>>,
@@ -21,7 +20,6 @@ pub(crate) struct FacetRows<A: Allocator> {
     pub(crate) by_address_ipv6: Option<Vec<u8, A>>,
     pub(crate) by_identifier_ipv6: Option<Vec<u8, A>>,
     pub(crate) by_all: Option<Vec<u8, A>>,
-    pub(crate) by_id: Option<Vec<u8, A>>,
 }
 
 /// Returns what is asked for by these names of the access server, and by the id or not.
@@ -33,19 +31,6 @@ pub(crate) fn mask(address: bool, identifier: bool, ipv6: bool, id: bool) -> Mas
         identifier,
         ipv6,
         id,
-    }
-}
-
-/// Makes the row of what is asked, if anything is.
-fn row_if_any<A: Allocator>(
-    alloc: A,
-    asked: Option<AskedRef<'_>>,
-) -> Result<Option<Vec<u8, A>>, NoMemory>
-    ensures { IfOk result (HasText (option_map row_text (option_map shown_asked asked.entry))) }
-{
-    match asked {
-        None => Ok(None),
-        Some(asked) => Ok(Some(row_of(alloc, asked)?)),
     }
 }
 
@@ -78,7 +63,6 @@ pub(crate) fn facet_rows<A: Allocator + Copy>(
     let by_address_ipv6 = row_under(alloc, session, mask(true, false, true, false))?;
     let by_identifier_ipv6 = row_under(alloc, session, mask(false, true, true, false))?;
     let by_all = row_under(alloc, session, mask(true, true, true, false))?;
-    let by_id = row_if_any(alloc, session.by_id())?;
     Ok(FacetRows {
         by_peer,
         by_address,
@@ -88,6 +72,5 @@ pub(crate) fn facet_rows<A: Allocator + Copy>(
         by_address_ipv6,
         by_identifier_ipv6,
         by_all,
-        by_id,
     })
 }

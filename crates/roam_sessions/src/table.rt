@@ -45,14 +45,14 @@ impl<A: Allocator> Drop for Table<A> {
 }
 
 impl<A: Allocator + Copy> Table<A> {
-    /// Returns a table of no sessions. Takes no memory.
-    pub(crate) fn new(alloc: A, key: HashKey) -> Table<A>
+    /// Returns a table of no sessions, for at most so many. Takes no memory.
+    pub(crate) fn new(alloc: A, key: HashKey, limit: u32) -> Table<A>
         ensures sound { IsTable result }
         ensures empty { open_sessions result ≡ [] }
         ensures count { session_count result.chain ≡ 0 }
     {
         Table {
-            chain: Chain::new(alloc, key),
+            chain: Chain::new(alloc, key, limit),
             ended: Ended::none(),
             left: 0,
         }

@@ -16,7 +16,7 @@ use Rattle.roam_counters.specs.Datagrams.{handled}
 use Rattle.roam_counters.specs.declared.datagrams.DatagramCounts.{DatagramCounts}
 use Rattle.roam_counters.specs.declared.datagrams.Handling.{Handling}
 use Rattle.roam_counters.specs.declared.datagrams.Handling.TheVariants as handling
-use Rattle.roam_intake.specs.Jobs.{HaveGone, HoldsNone, IsPutLast, jobs_of}
+use Rattle.roam_workers.specs.Jobs.{HaveGone, HoldsNone, IsPutLast, jobs_of}
 use Rattle.roam_outgoing.proofs.SendingLemmas.{puts_same}
 use Rattle.roam_workers.specs.Handlings.{Arrives, AtWork, HasFailed, IsHandled, IsJobHandled, IsTaken}
 use Rattle.roam_workers.specs.HandedJobs.{ArrivesHere, Receiving, HandsOrTakes, IsHandedOn, TakesAll, TakesJob, TakesSome}

@@ -26,7 +26,7 @@ use Rattle.roam_counters.specs.declared.datagrams.Handling.TheVariants as handli
 use Rattle.roam_counters.specs.Arrivals.{arrival_increments}
 use Rattle.roam_counters.specs.OwnCounts.{CountsView, raised_all}
 use Rattle.roam_counters.specs.declared.turn.CountedTurn.{CountedTurn}
-use Rattle.roam_counting.specs.Packets.{code_of, turn_of}
+use Rattle.roam_outgoing.specs.Packets.{code_of, turn_of}
 use Rattle.roam_workers.specs.Handlings.{AtWork, came, given_as, HasFailed, IsAnswered, IsHandled, IsRefused, refused_as, refused_counts}
 use Rattle.roam_workers.specs.Requests.{is_of_session, may_lose_session}
 

@@ -1,3 +1,5 @@
+pub mod AuditLemmas
+pub mod JobLemmas
 pub mod EndingLemmas
 pub mod HandlingLemmas
 pub mod TickLemmas

@@ -14,8 +14,8 @@ use Rattle.roam_counters.specs.OwnCounts.{CountsView, count_of, raised_all, rais
 use Rattle.roam_counters.specs.declared.datagrams.Handling.{Handling}
 use Rattle.roam_counters.specs.declared.datagrams.Handling.TheVariants as handling
 use Rattle.roam_counters.specs.declared.increments.Increment.{Increment}
-use Rattle.roam_counting.specs.Counting.{wait_of}
-use Rattle.roam_counting.specs.Packets.{turn_of}
+use Rattle.roam_outgoing.specs.Counting.{wait_of}
+use Rattle.roam_outgoing.specs.Packets.{turn_of}
 use Rattle.roam_workers.specs.Handlings.{AtWork, FailedCounts, IsHandled, IsJobHandled, IsJobTaken, given_as}
 use Rattle.roam_workers.specs.Ticks.{HasNotTicked, Ticks}
 use Rattle.roam_outgoing.proofs.SendingLemmas.{puts_both, puts_same}

@@ -3,7 +3,7 @@ use Rattle.std.specs.Prelude.{List, map}
 use Rattle.std.specs.declared.vec.Vec.{Vec}
 use Rattle.std.specs.declared.alloc.Global.{Global}
 use Rattle.roam_counters.specs.declared.datagrams.DatagramCounts.{DatagramCounts}
-use Rattle.roam_intake.specs.declared.job_counts.JobCounts.{JobCounts}
+use Rattle.roam_workers.specs.declared.job_counts.JobCounts.{JobCounts}
 use Rattle.roam_workers.specs.declared.ending.Ending.{Ending}
 use Rattle.roam_workers.specs.declared.ending.WorkerEnd.{WorkerEnd}
 

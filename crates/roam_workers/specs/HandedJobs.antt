@@ -9,8 +9,8 @@ use Rattle.roam_counters.specs.declared.datagrams.DatagramCounts.{DatagramCounts
 use Rattle.roam_counters.specs.Datagrams.{handled}
 use Rattle.roam_counters.specs.declared.datagrams.Datagrams.{Datagrams}
 use Rattle.roam_counters.specs.declared.datagrams.Handling.{Handling}
-use Rattle.roam_counting.specs.declared.counting.Counting.{Counting}
-use Rattle.roam_intake.specs.Jobs.{IsAdmitted, IsPutLast, jobs_of}
+use Rattle.roam_outgoing.specs.declared.counting.Counting.{Counting}
+use Rattle.roam_workers.specs.Jobs.{IsAdmitted, IsPutLast, jobs_of}
 use Rattle.roam_admission.specs.declared.job.Job.{Job}
 use Rattle.roam_outgoing.specs.declared.outgoing.Outgoing.{Outgoing}
 use Rattle.roam_workers.specs.Handlings.{Arrives, AtWork, IsJobHandled, at_work}

@@ -23,9 +23,9 @@ use Rattle.roam_counters.specs.OwnCounts.{CountsView, raised_all}
 use Rattle.roam_counters.specs.declared.datagrams.DatagramCounts.{DatagramCounts}
 use Rattle.roam_counters.specs.declared.datagrams.Handling.{Handling}
 use Rattle.roam_counters.specs.declared.datagrams.Handling.TheVariants as handling
-use Rattle.roam_counting.specs.Counting.{counts_in, wait_of}
-use Rattle.roam_counting.specs.Packets.{turn_of}
-use Rattle.roam_counting.specs.declared.counting.Counting.{Counting}
+use Rattle.roam_outgoing.specs.Counting.{counts_in, wait_of}
+use Rattle.roam_outgoing.specs.Packets.{turn_of}
+use Rattle.roam_outgoing.specs.declared.counting.Counting.{Counting}
 use Rattle.roam_exchange.specs.Turn.{shown_outs}
 use Rattle.roam_outgoing.specs.Sending.{PutsEach, outbox_in}
 use Rattle.roam_outgoing.specs.declared.outgoing.Outgoing.{Outgoing}

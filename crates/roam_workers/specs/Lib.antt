@@ -1,3 +1,5 @@
+pub mod JobCounts
+pub mod Jobs
 pub mod Agreeing
 pub mod Endings
 pub mod Handlings

@@ -6,7 +6,7 @@ use Rattle.roam_wire.specs.declared.code.TheConstants.{ACCOUNTING_RESPONSE}
 use Rattle.roam_conf.specs.declared.place.Place.{Place}
 use Rattle.roam_conf.specs.declared.place.Place.TheVariants as place
 use Rattle.roam_admission.specs.Arrivals.{PlainJob}
-use Rattle.roam_counting.specs.Packets.{code_of}
+use Rattle.roam_outgoing.specs.Packets.{code_of}
 
 abbrev pub is_request_code : ℕ → Bool
 is_request_code code = code == 1 || (code == 4 || (code == 12 || (code == 40 || code == 43)))

@@ -21,9 +21,9 @@ use Rattle.roam_counters.specs.declared.datagrams.Handling.{Handling}
 use Rattle.roam_counters.specs.declared.datagrams.Handling.TheVariants as handling
 use Rattle.roam_counters.specs.declared.event.CountedEvent.{CountedEvent}
 use Rattle.roam_counters.specs.declared.increments.Increment.{Increment}
-use Rattle.roam_counting.specs.Counting.{wait_of}
-use Rattle.roam_counting.specs.Packets.{turn_of}
-use Rattle.roam_intake.specs.Jobs.{IsAdmitted}
+use Rattle.roam_outgoing.specs.Counting.{wait_of}
+use Rattle.roam_outgoing.specs.Packets.{turn_of}
+use Rattle.roam_workers.specs.Jobs.{IsAdmitted}
 use Rattle.roam_outgoing.specs.Sending.{PutsEach}
 use Rattle.roam_port.specs.declared.outbox.Outbox.{Outbox}
 use Rattle.roam_workers.specs.Handlings.{AtWork, FailedCounts, IsHandled, IsJobHandled, IsJobTaken, given_as}

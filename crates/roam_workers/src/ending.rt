@@ -2,10 +2,10 @@
 
 ghost use Rattle.std.specs.Prelude.{◌≡◌, ◌⊎◌, ◌↔◌, IsTrue};
 
+use crate::job_counts::JobCounts;
 use crate::rests::Rests;
 use roam_counters::Datagrams;
 use roam_history::{Opened, Seat};
-use roam_intake::JobCounts;
 use roam_port::Outbox;
 use std::alloc::Global;
 

@@ -1,7 +1,7 @@
 //! The lines of the exchanges that end by what a worker does.
 
 ghost use Rattle.std.specs.Prelude.{◌≡◌};
-ghost use Rattle.roam_counting.specs.Counting.{counts_in};
+ghost use Rattle.roam_outgoing.specs.Counting.{counts_in};
 
 use crate::context::WorkerContext;
 use crate::hub_calls::HubCalls;
@@ -10,7 +10,7 @@ use roam_admission::{Datagram, LocalAnswer, RejectCause};
 use roam_counters::Process;
 use roam_history::{Answered, Became, Happening, LeftConversation, Opened, Waited};
 use roam_log::{EndedWith, Exchange, ExchangeEnd};
-use roam_telling::{local_reject_of, local_response_of, nak_of};
+use roam_logger::{local_reject_of, local_response_of, nak_of};
 use std::alloc::Global;
 use std::sync::Wait;
 

@@ -2,18 +2,21 @@
 
 ghost use Rattle.std.specs.Prelude.{◌≡◌, []};
 ghost use Rattle.roam_admission.specs.Shown.{shown_job};
-ghost use Rattle.roam_intake.specs.Jobs.{HaveGone, HoldsNone, jobs_of};
+ghost use Rattle.roam_workers.specs.Jobs.{HaveGone, HoldsNone, jobs_of};
 ghost use Rattle.roam_workers.specs.Handlings.{at_work};
 ghost use Rattle.roam_workers.specs.HandedJobs.{HandsOrTakes, TakesAll, TakesJob, TakesSome};
 ghost use Rattle.roam_workers.specs.Work.{HasWorked};
 
 use crate::context::WorkerContext;
 use crate::hub_calls::HubCalls;
+use crate::job_counts::{JobCounts, count_jobs};
+use crate::locked_queue::LockedQueue;
+use crate::queued_job::{Jobs, QueuedJob};
 use crate::shared::Shared;
+use crate::worker_jobs::WorkerJobs;
 use roam_admission::Job;
 use roam_conf::Place;
 use roam_history::Opened;
-use roam_intake::{JobCounts, Jobs, LockedQueue, QueuedJob, WorkerJobs, count_jobs};
 use std::alloc::Global;
 use std::collections::VecDeque;
 use std::mem;

@@ -1,7 +1,7 @@
 //! The remedies where a call of the hub isn't recorded.
 
 ghost use Rattle.std.specs.Prelude.{◌≡◌};
-ghost use Rattle.roam_counting.specs.Counting.{counts_in};
+ghost use Rattle.roam_outgoing.specs.Counting.{counts_in};
 
 use crate::context::{Remedy, WorkerContext, remedy_for};
 use crate::hub_calls::HubCalls;

@@ -3,15 +3,14 @@
 ghost use Rattle.std.specs.Prelude.{◌≡◌};
 ghost use Rattle.roam_conf.specs.Shown.{shown};
 
+use crate::locked_queue::LockedQueue;
 use crate::rest::TimerRest;
 use mio::Waker;
+use roam_admin::{Office, Stopping};
 use roam_conf::{Config, ExchangeLines};
-use roam_counting::Counters;
-use roam_desk::{Office, Stopping};
 use roam_history::Opened;
-use roam_intake::LockedQueue;
 use roam_log::StationForm;
-use roam_outgoing::{OldHistory, SharedLosses};
+use roam_outgoing::{Counters, OldHistory, SharedLosses};
 use std::alloc::Global;
 use std::sync::atomic::{AtomicBool, Ordering};
 use std::thread::Parker;

@@ -1,7 +1,7 @@
 //! The word that a home server does not answer, or does again, told when that changes.
 
 ghost use Rattle.std.specs.Prelude.{◌≡◌};
-ghost use Rattle.roam_counting.specs.Counting.{counts_in};
+ghost use Rattle.roam_outgoing.specs.Counting.{counts_in};
 
 use crate::context::WorkerContext;
 use crate::hub_calls::HubCalls;
@@ -10,7 +10,7 @@ use crate::shared::Shared;
 use roam_conf::{Link, Realm};
 use roam_history::{Opened, SERVER_LINKS, Seat};
 use roam_log::Silence;
-use roam_telling::Answering;
+use roam_logger::Answering;
 use std::alloc::Global;
 use std::sync::Wait;
 

@@ -1,7 +1,7 @@
 //! The worker that ticks the shards, and tells what was lost.
 
 ghost use Rattle.std.specs.Prelude.{◌≡◌, [], ◌↔◌, ◌≤◌, ◌-◌, min, IsTrue, IsFalse, MatchOption};
-ghost use Rattle.roam_counting.specs.Counting.{counts_in};
+ghost use Rattle.roam_outgoing.specs.Counting.{counts_in};
 ghost use Rattle.roam_outgoing.specs.Sending.{PutsEach, outbox_in};
 ghost use Rattle.roam_workers.specs.Handlings.{at_work};
 ghost use Rattle.roam_workers.specs.Work.{HasWorked, HasWorkedTo};

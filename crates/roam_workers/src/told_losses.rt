@@ -1,7 +1,7 @@
 //! The packets that were lost, told for each cause once a minute at most.
 
 ghost use Rattle.std.specs.Prelude.{◌≡◌, ◌↔◌, ◌≤◌, ◌+◌, IsTrue, MatchOption};
-ghost use Rattle.roam_counting.specs.Counting.{counts_in};
+ghost use Rattle.roam_outgoing.specs.Counting.{counts_in};
 
 use crate::hub_calls::HubCalls;
 use crate::timer::Timer;

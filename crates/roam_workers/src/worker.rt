@@ -1,8 +1,8 @@
 //! The worker that receives from sockets.
 
 ghost use Rattle.std.specs.Prelude.{◌≡◌, []};
-ghost use Rattle.roam_counting.specs.Counting.{counts_in};
-ghost use Rattle.roam_intake.specs.Jobs.{HoldsNone, jobs_of};
+ghost use Rattle.roam_outgoing.specs.Counting.{counts_in};
+ghost use Rattle.roam_workers.specs.Jobs.{HoldsNone, jobs_of};
 ghost use Rattle.roam_outgoing.specs.Sending.{PutsEach, outbox_in};
 ghost use Rattle.roam_workers.specs.HandedJobs.{receiving};
 ghost use Rattle.roam_workers.specs.Handlings.{at_work};
@@ -12,10 +12,12 @@ ghost use Rattle.roam_workers.specs.Work.{HasWorked, HasWorkedTo};
 use crate::buffer::give_back;
 use crate::context::WorkerContext;
 use crate::ending::{Ending, WorkerEnd};
+use crate::hearing::Hearing;
 use crate::hub_calls::HubCalls;
+use crate::ready::{keep_ready, mark_all_ready, mark_ready, wait_before};
+use crate::worker_jobs::WorkerJobs;
 use mio::{Events, Poll};
 use roam_history::Opened;
-use roam_intake::{Hearing, WorkerJobs, keep_ready, mark_all_ready, mark_ready, wait_before};
 use roam_port::Heard;
 use roam_sockets::{Receiver, WAIT_AFTER_FAULT};
 use std::alloc::Global;

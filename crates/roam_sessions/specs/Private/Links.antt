@@ -1,5 +1,5 @@
 -- The neighbours of a number in each of its groups, beside one another (ours).
-use Rattle.std.specs.Prelude.{ℕ, ◌==◌, Bool, true, false, Option, Some, None, option_map, if◌then◌else◌}
+use Rattle.std.specs.Prelude.{ℕ, ◌==◌, Bool, true, false, Option, Some, None, if◌then◌else◌}
 use Rattle.roam_sessions.specs.declared.links.Facet.{Facet}
 use Rattle.roam_sessions.specs.declared.links.Facet.TheVariants as facet
 use Rattle.roam_sessions.specs.declared.links.Link.{Link}
@@ -24,6 +24,7 @@ link_of facet.Address l = l.address
 link_of facet.Identifier l = l.identifier
 link_of facet.Both l = l.both
 link_of facet.Id l = l.id
+link_of facet.Whole l = l.whole
 
 abbrev pub with_link : Facet → Link → Links → Links
 with_link facet.Peer x l = record l { peer = x }
@@ -31,9 +32,21 @@ with_link facet.Address x l = record l { address = x }
 with_link facet.Identifier x l = record l { identifier = x }
 with_link facet.Both x l = record l { both = x }
 with_link facet.Id x l = record l { id = x }
+with_link facet.Whole x l = record l { whole = x }
 
 abbrev pub beside_of : Facet → Links → Beside
 beside_of facet l = shown_link (link_of facet l)
+
+-- no neighbours in any group
+abbrev pub no_links : Links
+no_links = record {
+  peer = record { older = 18446744073709551615; newer = 18446744073709551615 };
+  address = record { older = 18446744073709551615; newer = 18446744073709551615 };
+  identifier = record { older = 18446744073709551615; newer = 18446744073709551615 };
+  both = record { older = 18446744073709551615; newer = 18446744073709551615 };
+  id = record { older = 18446744073709551615; newer = 18446744073709551615 };
+  whole = record { older = 18446744073709551615; newer = 18446744073709551615 };
+}
 
 -- no neighbours
 abbrev pub no_beside : Beside
@@ -46,4 +59,5 @@ is_facet facet.Address facet.Address = true
 is_facet facet.Identifier facet.Identifier = true
 is_facet facet.Both facet.Both = true
 is_facet facet.Id facet.Id = true
+is_facet facet.Whole facet.Whole = true
 is_facet _ _ = false

@@ -42,14 +42,6 @@ mask_of q = record {
 abbrev pub without_names : Asked → Asked
 without_names q = record { peer = q.peer; nas = no_nas; id = q.id }
 
--- a session's access server has a name
-abbrev pub is_named : Session → Bool
-is_named s = is_some s.nas.address || is_some s.nas.identifier || is_some s.nas.ipv6
-
--- what a session is asked for by its id alone. Without names it is found so by all that it is
-abbrev pub by_id : Session → Option Asked
-by_id s = if is_named s then Some (without_names (asked_for s)) else None
-
 -- an access server of a peer has the names that are asked for
 abbrev pub has_names : Asked → ℕ → Nas → Bool
 has_names q peer nas =

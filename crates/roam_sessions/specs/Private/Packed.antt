@@ -1,5 +1,5 @@
 -- The parts of a session behind one another (ours).
-use Rattle.std.specs.Prelude.{ℕ, ◌+◌, ◌≤◌, List, [], length, take, drop, Option, Some, None, option_map}
+use Rattle.std.specs.Prelude.{ℕ, ◌+◌, ◌≤◌, List, [], length, take, drop, Option, Some, None}
 use Rattle.roam_sessions.specs.Sessions.{Session}
 
 -- a part's octets, none where it isn't there

@@ -1,6 +1,6 @@
 -- The question as one row of octets, by which a session table finds sessions (ours).
 use Rattle.std.specs.Prelude.{ℕ, ◌/◌, ◌%◌, ◌+◌, List, [], ◌∷◌, ◌++◌, length, Option, Some, None, option_map}
-use Rattle.roam_sessions.specs.Private.Masks.{asked_for, by_id, narrow}
+use Rattle.roam_sessions.specs.Private.Masks.{asked_for, narrow, without_names}
 use Rattle.roam_sessions.specs.Sessions.{Asked, Session}
 use Rattle.roam_sessions.specs.declared.asked.Mask.{Mask}
 
@@ -15,12 +15,12 @@ row_text q =
     q.peer / 256 ∷ q.peer % 256 ∷ part_text q.nas.address
     ++ (part_text q.nas.identifier ++ (part_text q.nas.ipv6 ++ part_text q.id))
 
--- the row of a session in the groups by some of its parts; by its id; by all that it is
+-- the row of a session in the groups by some of its parts; by its peer and its id; by all that it is
 abbrev pub row_under : Mask → Session → Option (List ℕ)
 row_under mask s = option_map row_text (narrow mask s)
 
-abbrev pub id_row : Session → Option (List ℕ)
-id_row s = option_map row_text (by_id s)
+abbrev pub id_row : Session → List ℕ
+id_row s = row_text (without_names (asked_for s))
 
 abbrev pub whole_row : Session → List ℕ
 whole_row s = row_text (asked_for s)

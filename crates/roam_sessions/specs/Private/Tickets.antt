@@ -2,11 +2,6 @@
 use Rattle.std.specs.Prelude.{◌≡◌, ◌≢◌, ℕ, ◌<◌, ◌≤◌, Bool, true, false, List, Option, Some, None, IsSome}
 use Rattle.roam_wire.specs.Numbered.{listed, tickets_end}
 
--- each ticket that has something is noted under it, and no other one is
-pub record IsNoted {X : Type 0} (f : ℕ → Option X) (w : X → Option ℕ) : Type 0 where
-  pub found : (x : X) (t : ℕ) → w x ≡ Some t → f t ≡ Some x
-  pub noted : (t : ℕ) (x : X) → f t ≡ Some x → w x ≡ Some t
-
 module _ {X : Type 0} where
   -- what all tickets have
   abbrev pub all_listed : (ℕ → Option X) → List X

@@ -6,6 +6,7 @@ use Rattle.roam_sessions.specs.declared.ends.Ends.{Ends}
 use Rattle.roam_sessions.proofs.GroupLemmas.{none-put, still-grouped}
 use Rattle.roam_sessions.proofs.JoinLemmas.{grouped-joined}
 use Rattle.roam_sessions.proofs.LinkedLemmas.{joined-first, number-below, older-below}
+use Rattle.roam_sessions.proofs.StayLemmas.{both-stay, still}
 use Rattle.roam_sessions.proofs.linked.join.Goals as goal
 
 pub returns-in_default-clause-grouped : goal.returns-in_default-clause-grouped
@@ -41,3 +42,10 @@ returns-clause-grouped g c = λ f h grouped begun comes.
 pub returns-clause-others : goal.returns-clause-others
 returns-clause-others g c = λ other apart u.
     c.link_newer.ensures.others other apart u ∙ c.link_older.ensures.others other apart u
+
+pub returns-in_default-clause-stay : goal.returns-in_default-clause-stay
+returns-in_default-clause-stay g c = still c.args.links.now
+
+pub returns-clause-stay : goal.returns-clause-stay
+returns-clause-stay g c =
+    both-stay c.args.links.now c.link_older.new.map c.link_newer.new.map c.link_older.ensures.stay c.link_newer.ensures.stay

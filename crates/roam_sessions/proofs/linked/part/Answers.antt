@@ -5,6 +5,7 @@ use Rattle.roam_sessions.specs.Maps.{linked}
 use Rattle.roam_sessions.specs.Private.Row.{row_text}
 use Rattle.roam_sessions.specs.declared.asked.AskedRef.{AskedRef}
 use Rattle.roam_sessions.proofs.GroupLemmas.{none-put, still-grouped}
+use Rattle.roam_sessions.proofs.StayLemmas.{still}
 use Rattle.roam_sessions.proofs.linked.part.Goals as goal
 
 pub returns-in_default-clause-grouped : goal.returns-in_default-clause-grouped
@@ -20,3 +21,6 @@ returns-in-Some-clause-grouped g c = λ f h grouped goes.
       was = goes.was ∙ is ∙ ap (λ (l : List ℕ). Some l) (sym (c.as_slice.ensures ∙ c.of.ensures));
       puts = goes.puts;
     })
+
+pub returns-in_default-clause-stay : goal.returns-in_default-clause-stay
+returns-in_default-clause-stay g c = still c.args.links.now

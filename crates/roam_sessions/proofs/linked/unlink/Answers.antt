@@ -5,6 +5,7 @@ use Rattle.roam_sessions.specs.Private.Groups.{PutsRow}
 use Rattle.roam_sessions.specs.declared.ends.Ends.{Ends}
 use Rattle.roam_sessions.proofs.LinkLemmas.{beside-fits}
 use Rattle.roam_sessions.proofs.LinkedLemmas.{linked-parts}
+use Rattle.roam_sessions.proofs.StayLemmas.{both-stay, still}
 use Rattle.roam_sessions.proofs.linked.unlink.Goals as goal
 
 pub returns-clause-grouped : goal.returns-clause-grouped
@@ -27,3 +28,13 @@ returns-clause-grouped g c = λ f h grouped goes.
 pub returns-clause-others : goal.returns-clause-others
 returns-clause-others g c = λ other apart u.
     c.link_older.ensures.others other apart u ∙ c.link_newer.ensures.others other apart u
+
+pub returns-in_default-clause-stay : goal.returns-in_default-clause-stay
+returns-in_default-clause-stay g c = still c.args.links.now
+
+pub returns-in_default-beside_in-clause-stay : goal.returns-in_default-beside_in-clause-stay
+returns-in_default-beside_in-clause-stay g c = still c.args.links.now
+
+pub returns-clause-stay : goal.returns-clause-stay
+returns-clause-stay g c =
+    both-stay c.args.links.now c.link_newer.new.map c.link_older.new.map c.link_newer.ensures.stay c.link_older.ensures.stay

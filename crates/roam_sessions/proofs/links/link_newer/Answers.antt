@@ -6,6 +6,7 @@ use Rattle.roam_sessions.specs.declared.links.Link.{Link}
 use Rattle.roam_sessions.specs.declared.links.Links.{Links}
 use Rattle.roam_sessions.proofs.LinkLemmas.{absent-newer, kept-newer, relinked-newer, relinked-others}
 use Rattle.roam_sessions.proofs.NeighbourLemmas.{held-some}
+use Rattle.roam_sessions.proofs.StayLemmas.{still}
 use Rattle.roam_sessions.proofs.links.link_newer.Goals as goal
 
 pub returns-in_default-clause-numbers : goal.returns-in_default-clause-numbers
@@ -41,3 +42,9 @@ returns-clause-others g c =
     let puts = subst (λ (w : Links). PutsAt m n number (Some w)) c.with_link.ensures
     (c.write.ensures.puts (held-some (m number) l there)) in
     relinked-others m c.args.facet number n l there _ puts
+
+pub returns-in_default-clause-stay : goal.returns-in_default-clause-stay
+returns-in_default-clause-stay g c = still c.args.map.now
+
+pub returns-in_default-links_of-clause-stay : goal.returns-in_default-links_of-clause-stay
+returns-in_default-links_of-clause-stay g c = still c.args.map.now

@@ -1,5 +1,5 @@
 use Rattle.std.proofs.Common.{◌≡◌}
-use Rattle.roam_counting.specs.Counting.{counts_in}
+use Rattle.roam_outgoing.specs.Counting.{counts_in}
 use Rattle.roam_workers.proofs.silence.tell_rests.Given as goal
 
 -- what is told changes nothing that is counted

@@ -1,4 +1,4 @@
-use Rattle.roam_intake.specs.Jobs.{jobs_of}
+use Rattle.roam_workers.specs.Jobs.{jobs_of}
 use Rattle.roam_workers.specs.HandedJobs.{receiving}
 use Rattle.roam_workers.specs.Handlings.{at_work}
 use Rattle.roam_workers.specs.Work.{HasWorked}

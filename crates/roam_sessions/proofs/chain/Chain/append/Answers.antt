@@ -1,15 +1,13 @@
-use Rattle.std.proofs.Common.{◌≡◌, ℕ, ◌+◌, ◌-◌, ◌<◌, List, [], ◌∷◌, length, Some, ap, ◌∙◌, subst, arith, length-append}
+use Rattle.std.proofs.Common.{◌≡◌, ℕ, ◌+◌, ◌-◌, ◌<◌, List, [], ◌∷◌, length, ap, ◌∙◌, subst, arith, length-append}
 use Rattle.roam_wire.specs.Numbered.{tickets_end}
 use Rattle.roam_sessions.specs.Facets.{ComesIn, FacetsHaveRoom}
 use Rattle.roam_sessions.specs.Kept.{kept_session}
-use Rattle.roam_sessions.specs.Maps.{number_at, session_of}
+use Rattle.roam_sessions.specs.Maps.{session_of}
 use Rattle.roam_sessions.specs.Private.Tickets.{all_listed}
 use Rattle.roam_sessions.specs.Sessions.{Session}
-use Rattle.roam_sessions.specs.Stands.{session_at, whole_rows}
+use Rattle.roam_sessions.specs.Stands.{session_at}
 use Rattle.roam_sessions.proofs.ListedLemmas.{listed-last}
 use Rattle.roam_sessions.proofs.SoundLemmas.{tickets-come}
-use Rattle.roam_sessions.proofs.NotedLemmas.{noted-comes}
-use Rattle.roam_sessions.proofs.WholeLemmas.{comes-whole, row-of-session}
 use Rattle.roam_sessions.proofs.chain.Chain.append.Goals as goal
 
 pub overflow_add-self : goal.overflow_add-self
@@ -23,33 +21,26 @@ less n some = omega (arith, some)
 pub returns-clause-sound : goal.returns-clause-sound
 returns-clause-sound g c =
     let F = session_at c.args.self.now in
-    let G = session_of c.put.new.map in
+    let G = session_of c.append.new.map in
     let s = kept_session c.args.new.session in
     let next = c.args.self.now.next in
     let sound = c.requires.sound in
     let spare = less c.args.self.now.spare c.requires.room in
     let comes : ComesIn F G next s = record {
-      puts = c.put.ensures.puts;
+      puts = c.append.ensures.sessions;
       free = sound.tickets.given;
       within = omega (arith, sound.ticket_room, c.requires.room);
     } in
-    let listed = listed-last F G 0 tickets_end next s c.put.ensures.puts.changed c.put.ensures.puts.others
+    let listed = listed-last F G 0 tickets_end next s c.append.ensures.sessions.changed c.append.ensures.sessions.others
     sound.tickets.given (omega arith) (omega (arith, sound.tickets.within)) in
     record {
-      tickets = tickets-come F G next s sound.tickets c.requires.absent c.put.ensures.puts
+      tickets = tickets-come F G next s sound.tickets c.requires.absent c.append.ensures.sessions
           (omega (arith, sound.ticket_room, c.requires.room));
-      whole = noted-comes (whole_rows F) (whole_rows G) (number_at c.args.self.now.whole)
-          (number_at c.note_number.new.map) next c.args.new.whole.items sound.whole
-          (comes-whole F G next s _ c.args.new.whole_is comes)
-          (λ u is. c.requires.absent u (row-of-session F u s
-          (is ∙ ap (λ (l : List ℕ). Some l) c.args.new.whole_is)))
-          c.note_number.ensures.puts;
-      of_peer = c.append.ensures.faceted F G s sound.of_peer c.args.new.of_peer_are comes;
+      of_peer = c.append.ensures.faceted F G sound.of_peer comes;
       count = ap (λ (l : List Session). length l) listed ∙ length-append (all_listed F) (s ∷ [])
-          ∙ omega (arith, sound.count, c.put.ensures.len);
+          ∙ omega (arith, sound.count, c.append.ensures.len);
       room = record {
-        by_ticket = omega (arith, sound.room.by_ticket, c.put.ensures.room, c.requires.room);
-        whole = omega (arith, sound.room.whole, c.note_number.ensures.room, c.requires.room);
+        by_ticket = omega (arith, sound.room.by_ticket, c.append.ensures.map_room, c.requires.room);
         of_peer = c.append.ensures.room (c.args.self.now.spare - 1)
             (subst (λ (n : ℕ). FacetsHaveRoom n c.args.self.now.of_peer) spare sound.room.of_peer);
       };
@@ -58,23 +49,22 @@ returns-clause-sound g c =
 
 pub returns-clause-sessions : goal.returns-clause-sessions
 returns-clause-sessions g c =
-    listed-last (session_at c.args.self.now) (session_of c.put.new.map) 0 tickets_end c.args.self.now.next
-    (kept_session c.args.new.session) c.put.ensures.puts.changed c.put.ensures.puts.others
+    listed-last (session_at c.args.self.now) (session_of c.append.new.map) 0 tickets_end c.args.self.now.next
+    (kept_session c.args.new.session) c.append.ensures.sessions.changed c.append.ensures.sessions.others
     c.requires.sound.tickets.given (omega arith) (omega (arith, c.requires.sound.tickets.within))
 
-pub put-requires-clause-free : goal.put-requires-clause-free
-put-requires-clause-free g c = c.requires.sound.tickets.given c.args.self.now.next (omega arith)
+pub append-requires-clause-free : goal.append-requires-clause-free
+append-requires-clause-free g c = c.requires.sound.tickets.given c.args.self.now.next (omega arith)
 
 -- room for one is there where there is some
-pub note_number-requires : goal.note_number-requires
-note_number-requires g c = omega (arith, c.requires.sound.room.whole, c.requires.room)
+pub append-requires-clause-room : goal.append-requires-clause-room
+append-requires-clause-room g c = omega (arith, c.requires.sound.room.by_ticket, c.requires.room)
 
-pub append-requires : goal.append-requires
-append-requires g c =
+pub append-requires-clause-facets : goal.append-requires-clause-facets
+append-requires-clause-facets g c =
     let room = c.requires.sound.room.of_peer in
     let some = c.requires.room in
     record {
-      links = omega (arith, room.links, some);
       by_peer = omega (arith, room.by_peer, some);
       by_address = omega (arith, room.by_address, some);
       by_identifier = omega (arith, room.by_identifier, some);
@@ -96,4 +86,5 @@ append-requires g c =
         beside = omega (arith, room.by_all.beside, some);
       };
       by_id = omega (arith, room.by_id, some);
+      by_whole = omega (arith, room.by_whole, some);
     }

@@ -1,10 +1,7 @@
 use Rattle.std.proofs.Common.{◌≡◌, ℕ, List, length, None, refl, sym, ap, ◌∙◌, arith}
-use Rattle.std.specs.Prelude.{option_map}
 use Rattle.roam_wire.specs.Numbered.{tickets_end}
-use Rattle.roam_sessions.specs.Maps.{number_at, session_of}
-use Rattle.roam_sessions.specs.Private.Row.{whole_row}
+use Rattle.roam_sessions.specs.Maps.{linked_by, session_of}
 use Rattle.roam_sessions.specs.Sessions.{Session}
-use Rattle.roam_sessions.specs.Stands.{whole_rows}
 use Rattle.roam_sessions.proofs.ListedLemmas.{listed-none}
 use Rattle.roam_sessions.proofs.chain.Chain.new.Goals as goal
 
@@ -13,26 +10,18 @@ unfolding tickets_end
 returns-clause-sound g c =
     let F = session_of c.new.result in
     let none : (t : ℕ) → session_of c.new.result t ≡ None = λ t. rw c.new.ensures.empty refl in
-    let nobody : (row : List ℕ) → number_at c.with_hasher.result row ≡ None =
-    λ row. rw c.with_hasher.ensures.empty refl in
     record {
       tickets = record {
         distinct = λ t u s a b. absurd (let k = none t in cc (k, a));
         given = λ t le. none t;
         within = omega arith;
       };
-      whole = record {
-        found = λ row t at. absurd (let k : number_at c.with_hasher.result row ≡ None = nobody row in cc (k, at));
-        noted = λ t row at. absurd (let k = ap (option_map whole_row) (none t) in cc (k, at));
-      };
-      of_peer = c.new-2.ensures F none;
+      of_peer = c.new-2.ensures F (linked_by c.new.result) none;
       count = ap (λ (l : List Session). length l) (listed-none F 0 tickets_end (λ u le. none u))
           ∙ sym c.new.ensures.len;
       room = record {
         by_ticket = omega arith;
-        whole = omega arith;
         of_peer = record {
-          links = omega arith;
           by_peer = omega arith;
           by_address = omega arith;
           by_identifier = omega arith;
@@ -42,6 +31,7 @@ returns-clause-sound g c =
           by_identifier_ipv6 = record { ends = omega arith; beside = omega arith };
           by_all = record { ends = omega arith; beside = omega arith };
           by_id = omega arith;
+          by_whole = omega arith;
         };
       };
       ticket_room = omega arith;

@@ -6,40 +6,27 @@ use Rattle.roam_sessions.proofs.chain.Chain.reserve.Goals as goal
 pub returns-in_err-reserve-clause-sound : goal.returns-in_err-reserve-clause-sound
 returns-in_err-reserve-clause-sound g c =
     let sound = c.requires in
-    grown-sound c.args.self.now _ sound c.reserve.ensures.entries refl (λ F are. are) refl
+    grown-sound c.args.self.now _ sound c.reserve.ensures.entries (λ F b are. are) refl
     (record {
       by_ticket = omega (arith, sound.room.by_ticket, c.reserve.ensures.room.0);
-      whole = sound.room.whole;
       of_peer = sound.room.of_peer;
     }) sound.ticket_room
 
 pub returns-in_err-reserve-2-clause-sound : goal.returns-in_err-reserve-2-clause-sound
 returns-in_err-reserve-2-clause-sound g c =
     let sound = c.requires in
-    grown-sound c.args.self.now _ sound c.reserve.ensures.entries c.reserve-2.ensures.entries (λ F are. are) refl
+    grown-sound c.args.self.now _ sound c.reserve.ensures.entries c.reserve-2.ensures.same refl
     (record {
       by_ticket = omega (arith, sound.room.by_ticket, c.reserve.ensures.room.0);
-      whole = omega (arith, sound.room.whole, c.reserve-2.ensures.room.0);
-      of_peer = sound.room.of_peer;
-    }) sound.ticket_room
-
-pub returns-in_err-reserve-3-clause-sound : goal.returns-in_err-reserve-3-clause-sound
-returns-in_err-reserve-3-clause-sound g c =
-    let sound = c.requires in
-    grown-sound c.args.self.now _ sound c.reserve.ensures.entries c.reserve-2.ensures.entries c.reserve-3.ensures.same refl
-    (record {
-      by_ticket = omega (arith, sound.room.by_ticket, c.reserve.ensures.room.0);
-      whole = omega (arith, sound.room.whole, c.reserve-2.ensures.room.0);
-      of_peer = c.reserve-3.ensures.room c.args.self.now.spare sound.room.of_peer;
+      of_peer = c.reserve-2.ensures.room c.args.self.now.spare sound.room.of_peer;
     }) sound.ticket_room
 
 pub returns-clause-sound : goal.returns-clause-sound
 unfolding tickets_end
 returns-clause-sound g c =
     let sound = c.requires in
-    grown-sound c.args.self.now _ sound c.reserve.ensures.entries c.reserve-2.ensures.entries c.reserve-3.ensures.same refl
+    grown-sound c.args.self.now _ sound c.reserve.ensures.entries c.reserve-2.ensures.same refl
     (record {
       by_ticket = c.in_ok-reserve.ensures.ok;
-      whole = c.in_ok-reserve-2.ensures.ok;
-      of_peer = c.in_ok-reserve-3.ensures.ok;
+      of_peer = c.in_ok-reserve-2.ensures.ok;
     }) (omega (arith, sound.ticket_room, c.if-self-gt0.false, c.if-self.false))

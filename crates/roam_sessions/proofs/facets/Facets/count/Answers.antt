@@ -10,9 +10,9 @@ use Rattle.roam_sessions.proofs.FacetLemmas.{count-agreeing, facet-grouped}
 use Rattle.roam_sessions.proofs.facets.Facets.count.Goals as goal
 
 pub returns : goal.returns
-returns g c = λ F are none.
+returns g c = λ F b are none.
     let q = shown_asked c.args.asked in
-    let grouped = facet-grouped q c.args.self.now F are none in
+    let grouped = facet-grouped q c.args.self.now F b are none in
     let p : PlainGroups = record { ends = facet_of q c.args.self.now; beside = grouped.0 } in
     c.count_in.ensures
     ∙ ap (λ (row : List ℕ). option_map_or (λ (e : Ends). e.count) (ends_at c.ends_for.result.now row) 0)

@@ -12,9 +12,9 @@ use Rattle.roam_sessions.proofs.FacetLemmas.{facet-grouped, none-before, oldest-
 use Rattle.roam_sessions.proofs.facets.Facets.oldest.Goals as goal
 
 pub returns-clause-agrees : goal.returns-clause-agrees
-returns-clause-agrees g c = λ F are none.
+returns-clause-agrees g c = λ F b are none.
     let q = shown_asked c.args.asked in
-    let grouped = facet-grouped q c.args.self.now F are none in
+    let grouped = facet-grouped q c.args.self.now F b are none in
     let p : PlainGroups = record { ends = facet_of q c.args.self.now; beside = grouped.0 } in
     let is = c.oldest_in.ensures
     ∙ ap (λ (row : List ℕ). option_map (λ (e : Ends). e.oldest) (ends_at c.ends_for.result.now row))
@@ -23,9 +23,9 @@ returns-clause-agrees g c = λ F are none.
     subst (λ (o : Option ℕ). IsOneOf (agrees q) F o) (sym is) (oldest-agreeing q F p grouped.1)
 
 pub returns-clause-first : goal.returns-clause-first
-returns-clause-first g c = λ F are none.
+returns-clause-first g c = λ F b are none.
     let q = shown_asked c.args.asked in
-    let grouped = facet-grouped q c.args.self.now F are none in
+    let grouped = facet-grouped q c.args.self.now F b are none in
     let p : PlainGroups = record { ends = facet_of q c.args.self.now; beside = grouped.0 } in
     let is = c.oldest_in.ensures
     ∙ ap (λ (row : List ℕ). option_map (λ (e : Ends). e.oldest) (ends_at c.ends_for.result.now row))

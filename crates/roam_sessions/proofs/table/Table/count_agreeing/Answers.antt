@@ -1,10 +1,11 @@
-use Rattle.std.proofs.Common.{◌≡◌, ◌+◌, ◌-◌, ◌^◌, ℕ, Option, Some, None, min, refl, sym, ap, ◌∙◌, subst, arith}
+use Rattle.std.proofs.Common.{◌≡◌, ◌+◌, ◌-◌, ◌^◌, ℕ, Option, min, sym, ap, subst, arith}
 use Rattle.std.specs.Prelude.{option_and_then}
 use Rattle.roam_wire.specs.Numbered.{tickets_end}
 use Rattle.roam_sessions.specs.Ended.{agreeing_at, if_agrees, open_count}
-use Rattle.roam_sessions.specs.Facets.{id_rows}
+use Rattle.roam_sessions.specs.Facets.{id_buckets}
 use Rattle.roam_sessions.specs.Kept.{shown_asked}
-use Rattle.roam_sessions.specs.Maps.{linked, linked_at}
+use Rattle.roam_sessions.specs.Maps.{chained}
+use Rattle.roam_sessions.specs.Private.Buckets.{bucket_text}
 use Rattle.roam_sessions.specs.Private.Groups.{newer_of}
 use Rattle.roam_sessions.specs.Stands.{session_at}
 use Rattle.roam_sessions.specs.declared.links.Facet.TheVariants as facet
@@ -16,23 +17,23 @@ use Rattle.roam_sessions.proofs.table.Table.count_agreeing.Goals as goal
 pub loop-i-init : goal.loop-i-init
 loop-i-init g c = λ sound grouped.
     let O = agreeing_at (shown_asked c.args.asked) c.args.self.now in
-    let f = id_rows (session_at c.args.self.now.chain) in
-    let p = linked facet.Id c.args.self.now.chain.of_peer.by_id c.args.self.now.chain.of_peer.links in
-    subst (λ (o : Option ℕ). Walks O f p c.args.row.now grouped 0 0 o) (sym c.oldest_in-at.ensures)
-    (walk-begins O f p c.args.row.now grouped)
+    let f = id_buckets c.args.self.now.chain.of_peer.buckets (session_at c.args.self.now.chain) in
+    let p = chained facet.Id c.args.self.now.chain.of_peer.by_id c.args.self.now.chain.by_ticket in
+    subst (λ (o : Option ℕ). Walks O f p (bucket_text c.args.bucket) grouped 0 0 o) (sym c.oldest_of-at.ensures)
+    (walk-begins O f p (bucket_text c.args.bucket) grouped)
 
 pub loop-i-preserved : goal.loop-i-preserved
 unfolding tickets_end
 loop-i-preserved g c = λ sound grouped.
     let O = agreeing_at (shown_asked c.args.asked) c.args.self.now in
-    let f = id_rows (session_at c.args.self.now.chain) in
-    let p = linked facet.Id c.args.self.now.chain.of_peer.by_id c.args.self.now.chain.of_peer.links in
-    let row = c.args.row.now in
+    let f = id_buckets c.args.self.now.chain.of_peer.buckets (session_at c.args.self.now.chain) in
+    let p = chained facet.Id c.args.self.now.chain.of_peer.by_id c.args.self.now.chain.by_ticket in
+    let row = bucket_text c.args.bucket in
     let l = c.loop-i in
     let walks = l.invariant sound grouped in
     let all = count-is f p row grouped in
     let goes = walk-goes O f p row grouped l.i l.count l.at walks
-    (omega (arith, c.loop-i-test.true, c.count_in-i-end.ensures, all)) in
+    (omega (arith, c.loop-i-test.true, c.count_of-i-end.ensures, all)) in
     let bound = walk-bound O f p row grouped l.i l.count c.args.self.now.chain.next l.at walks
     (λ u le. ap (option_and_then (if_agrees (shown_asked c.args.asked)))
     ((table-tickets c.args.self.now sound).given u le)) in
@@ -48,10 +49,10 @@ loop-i-preserved g c = λ sound grouped.
 pub returns : goal.returns
 returns g c = λ sound.
     let l = c.loop-i in
-    let f = id_rows (session_at c.args.self.now.chain) in
-    let p = linked facet.Id c.args.self.now.chain.of_peer.by_id c.args.self.now.chain.of_peer.links in
+    let f = id_buckets c.args.self.now.chain.of_peer.buckets (session_at c.args.self.now.chain) in
+    let p = chained facet.Id c.args.self.now.chain.of_peer.by_id c.args.self.now.chain.by_ticket in
     let grouped = sound.chain.of_peer.by_id in
-    walk-ends (agreeing_at (shown_asked c.args.asked) c.args.self.now) f p c.args.row.now grouped l.i l.count l.at
+    walk-ends (agreeing_at (shown_asked c.args.asked) c.args.self.now) f p (bucket_text c.args.bucket) grouped l.i l.count l.at
     (l.invariant sound grouped)
-    (let all = count-is f p c.args.row.now grouped in
-    omega (arith, c.loop-i-test.false, c.count_in-i-end.ensures, all))
+    (let all = count-is f p (bucket_text c.args.bucket) grouped in
+    omega (arith, c.loop-i-test.false, c.count_of-i-end.ensures, all))

@@ -1,8 +1,8 @@
-use Rattle.std.proofs.Common.{ℕ, List, Option}
 use Rattle.roam_sessions.specs.Ended.{IsTable, agreeing_at}
-use Rattle.roam_sessions.specs.Facets.{id_rows}
+use Rattle.roam_sessions.specs.Facets.{id_buckets}
 use Rattle.roam_sessions.specs.Kept.{shown_asked}
-use Rattle.roam_sessions.specs.Maps.{linked}
+use Rattle.roam_sessions.specs.Maps.{chained}
+use Rattle.roam_sessions.specs.Private.Buckets.{bucket_text}
 use Rattle.roam_sessions.specs.Private.Groups.{IsGrouped}
 use Rattle.roam_sessions.specs.Stands.{session_at}
 use Rattle.roam_sessions.specs.declared.links.Facet.TheVariants as facet
@@ -12,7 +12,7 @@ use Rattle.roam_sessions.proofs.table.Table.count_agreeing.Given as goal
 -- those that were looked at were counted, and the next one is known
 abbrev pub invariant-loop-i : goal.invariant-loop-i
 invariant-loop-i g l =
-    IsTable l.self → (grouped : IsGrouped (id_rows (session_at l.self.chain))
-    (linked facet.Id l.self.chain.of_peer.by_id l.self.chain.of_peer.links))
-    → Walks (agreeing_at (shown_asked l.asked) l.self) (id_rows (session_at l.self.chain))
-    (linked facet.Id l.self.chain.of_peer.by_id l.self.chain.of_peer.links) l.row grouped l.i l.count l.at
+    IsTable l.self → (grouped : IsGrouped (id_buckets l.self.chain.of_peer.buckets (session_at l.self.chain))
+    (chained facet.Id l.self.chain.of_peer.by_id l.self.chain.by_ticket))
+    → Walks (agreeing_at (shown_asked l.asked) l.self) (id_buckets l.self.chain.of_peer.buckets (session_at l.self.chain))
+    (chained facet.Id l.self.chain.of_peer.by_id l.self.chain.by_ticket) (bucket_text l.bucket) grouped l.i l.count l.at

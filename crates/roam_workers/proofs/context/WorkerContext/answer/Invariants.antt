@@ -1,7 +1,7 @@
 use Rattle.std.proofs.Common.{◌≡◌}
 use Rattle.roam_admission.specs.Events.{IsEvent}
 use Rattle.roam_admission.specs.Shown.{shown_job}
-use Rattle.roam_counting.specs.Counting.{counts_in}
+use Rattle.roam_outgoing.specs.Counting.{counts_in}
 use Rattle.roam_workers.proofs.context.WorkerContext.answer.Given as goal
 
 -- the job is the one that was handed in, which the hub takes, and none was counted yet

@@ -1,6 +1,6 @@
 -- What is told of requests changes nothing that is counted.
 use Rattle.std.proofs.Common.{◌≡◌}
-use Rattle.roam_counting.specs.Counting.{counts_in}
+use Rattle.roam_outgoing.specs.Counting.{counts_in}
 use Rattle.roam_workers.proofs.context.WorkerContext.end_by_tick.Given as goal
 
 abbrev pub invariant-loop-due : goal.invariant-loop-due

@@ -10,7 +10,7 @@ use Rattle.roam_counters.specs.Increments.{local_increments}
 use Rattle.roam_admission.specs.Admission.{admission}
 use Rattle.roam_admission.specs.Shown.{IsAdmission, shown_arrival, shown_out}
 use Rattle.roam_admission.specs.declared.job.Prepared.{Prepared}
-use Rattle.roam_counting.specs.Counting.{counts_in}
+use Rattle.roam_outgoing.specs.Counting.{counts_in}
 use Rattle.roam_outgoing.proofs.SendingLemmas.{puts_from}
 use Rattle.roam_outgoing.specs.Sending.{outbox_in}
 use Rattle.roam_workers.specs.Handlings.{IsAnsweredHere, IsHandled, at_work}

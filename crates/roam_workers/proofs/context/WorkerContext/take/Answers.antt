@@ -6,10 +6,10 @@ use Rattle.roam_counters.specs.Arrivals.{failed_increments}
 use Rattle.roam_counters.specs.Increments.{job_increments}
 use Rattle.roam_admission.specs.Shown.{shown_job}
 use Rattle.roam_history.specs.Seats.{SeatView}
-use Rattle.roam_counting.specs.Counting.{counts_in, wait_of}
+use Rattle.roam_outgoing.specs.Counting.{counts_in, wait_of}
 use Rattle.roam_outgoing.proofs.SendingLemmas.{puts_from}
 use Rattle.roam_outgoing.specs.Sending.{outbox_in}
-use Rattle.roam_counting.specs.Packets.{turn_of}
+use Rattle.roam_outgoing.specs.Packets.{turn_of}
 use Rattle.roam_workers.specs.Handlings.{came, given_as}
 use Rattle.roam_workers.proofs.HandlingLemmas.{came-so, realm_given}
 use Rattle.roam_workers.proofs.context.WorkerContext.take.Goals as goal

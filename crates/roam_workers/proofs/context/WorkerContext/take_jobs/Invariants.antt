@@ -1,6 +1,6 @@
 use Rattle.std.proofs.Common.{length}
 use Rattle.roam_counters.specs.declared.datagrams.DatagramCounts.{DatagramCounts}
-use Rattle.roam_intake.specs.Jobs.{jobs_of}
+use Rattle.roam_workers.specs.Jobs.{jobs_of}
 use Rattle.roam_workers.specs.Handlings.{AtWork, at_work}
 use Rattle.roam_workers.specs.HandedJobs.{TakesAll}
 use Rattle.roam_workers.proofs.context.WorkerContext.take_jobs.Given as goal

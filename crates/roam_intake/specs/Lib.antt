@@ -1,2 +1,0 @@
-pub mod JobCounts
-pub mod Jobs
