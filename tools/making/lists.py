@@ -23,8 +23,8 @@ HEADS = {
 }
 # What the manual page doesn't list: no datagram that a server received meets them, or nothing is logged of them.
 NOT_LOGGED = {11, 20, 22, 23}
-# Texts that begin as others do, and go on in crates/roam_cli/src/reasons.rt.
-COMPOSED = {"roam: PATH: REASON", "roam: PATH:LINE: isn't UTF-8"}
+# Words of a text's holes that a row has otherwise than in capitals.
+HOLES = {"number": "N", "wanted": "N", "seconds": "S", "fault": "NAME"}
 
 
 def rows_of(page: str, first: str) -> list[list[str]]:
@@ -120,17 +120,10 @@ def keys_of_the_reader() -> dict[str, set[str]]:
 def lost_texts() -> list[str]:
     """Returns the program's texts that have no row, and the rows whose text the program doesn't have."""
     code = (ROOT / "crates" / "roam_cli" / "src" / "fault_text.rt").read_text(encoding="utf-8")
-    stands_for = {"number": "N", "wanted": "N", "seconds": "S", "endpoint": "ENDPOINT", "fault": "NAME", "why": "WHY", "what": "WHAT"}
-    # What begins with a colon stands behind a path, or behind the first word.
-    code = re.sub(r'"(: [^"]*")', r'"roam: PATH\1', code)
-    code = re.sub(r"PATH: (no such command|not a number of)", r"WORD: \1", code)
-    texts = {re.sub(r"\{(\w+)\}", lambda it: stands_for.get(it.group(1), "REASON"), it).replace("error REASON", "REASON")
-             for it in re.findall(r'"(roam: [^"]*?)(?:\\n)?"', code)} | COMPOSED
+    texts = {re.sub(r"\{(\w+)\}", lambda it: HOLES.get(it.group(1), it.group(1).upper()), it)
+             for it in re.findall(r'"(roam: [^"]*?)(?:\\n(?:\{USAGE\})?)?"', code)}
     page = (ROOT / "docs" / "REFUSALS.md").read_text(encoding="utf-8")
     rows = set(re.findall(r"^\| `(roam: [^`]+)` \|", page, re.M)) | set(re.findall(r"behind `(roam: [^`]+)`", page))
-    # Of a text that is printed in parts the first one is found.
-    fronts = {it for it in texts if it.startswith("roam: cannot")}
-    texts = {next((row for row in rows if it in fronts and row.startswith(it)), it) for it in texts}
     return ([f"docs/REFUSALS.md has no row of the text {it!r}" for it in sorted(texts - rows)]
             + [f"the program has no text {it!r}, of which docs/REFUSALS.md has a row" for it in sorted(rows - texts)])
 
