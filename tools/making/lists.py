@@ -117,11 +117,24 @@ def keys_of_the_reader() -> dict[str, set[str]]:
     return found
 
 
+def shown_by(code: str, part: str) -> dict[str, str]:
+    """Returns the text that one part of a fault's text is, by the fault; `_` stands for those without an arm."""
+    arms = code.split(f"impl Display for {part}", 1)[1].split("match self.0 {\n", 1)[1].split("\n        }\n", 1)[0]
+    texts = {}
+    for faults, shown in re.findall(r"^ {12}((?:\| )?(?:Fault::|_)[^=]*?) => (.*?)(?=\n {12}(?:Fault::|_)|\Z)", arms, re.M | re.S):
+        text = re.search(r'"([^"]*)"', shown)
+        for name in re.findall(r"Fault::(\w+)", faults) or ["_"]:
+            texts[name] = text.group(1).split("\\n")[0] if text else ""
+    return texts
+
+
 def lost_texts() -> list[str]:
     """Returns the program's texts that have no row, and the rows whose text the program doesn't have."""
     code = (ROOT / "crates" / "roam_cli" / "src" / "fault_text.rt").read_text(encoding="utf-8")
-    texts = {re.sub(r"\{(\w+)\}", lambda it: HOLES.get(it.group(1), it.group(1).upper()), it)
-             for it in re.findall(r'"(roam: [^"]*?)(?:\\n(?:\{USAGE\})?)?"', code)}
+    beginnings, endings = shown_by(code, "Beginning"), shown_by(code, "Ending")
+    texts = {re.sub(r"\{(\w+)\}", lambda it: HOLES.get(it.group(1), it.group(1).upper()),
+                    beginnings.get(name, beginnings["_"]) + ending)
+             for name, ending in endings.items() if ending}
     page = (ROOT / "docs" / "REFUSALS.md").read_text(encoding="utf-8")
     rows = set(re.findall(r"^\| `(roam: [^`]+)` \|", page, re.M)) | set(re.findall(r"behind `(roam: [^`]+)`", page))
     return ([f"docs/REFUSALS.md has no row of the text {it!r}" for it in sorted(texts - rows)]
