@@ -23,8 +23,8 @@ HEADS = {
 }
 # What the manual page doesn't list: no datagram that a server received meets them, or nothing is logged of them.
 NOT_LOGGED = {11, 20, 22, 23}
-# Texts that begin as others do, and go on in crates/roam_cli/src/reasons.rt.
-COMPOSED = {"roam: PATH: REASON", "roam: PATH:LINE: isn't UTF-8"}
+# Words of a text's holes that a row has otherwise than in capitals.
+HOLES = {"number": "N", "wanted": "N", "seconds": "S", "fault": "NAME"}
 
 
 def rows_of(page: str, first: str) -> list[list[str]]:
@@ -117,20 +117,26 @@ def keys_of_the_reader() -> dict[str, set[str]]:
     return found
 
 
+def shown_by(code: str, part: str) -> dict[str, str]:
+    """Returns the text that one part of a fault's text is, by the fault; `_` stands for those without an arm."""
+    arms = code.split(f"impl Display for {part}", 1)[1].split("match self.0 {\n", 1)[1].split("\n        }\n", 1)[0]
+    texts = {}
+    for faults, shown in re.findall(r"^ {12}((?:\| )?(?:Fault::|_)[^=]*?) => (.*?)(?=\n {12}(?:Fault::|_)|\Z)", arms, re.M | re.S):
+        text = re.search(r'"([^"]*)"', shown)
+        for name in re.findall(r"Fault::(\w+)", faults) or ["_"]:
+            texts[name] = text.group(1).split("\\n")[0] if text else ""
+    return texts
+
+
 def lost_texts() -> list[str]:
     """Returns the program's texts that have no row, and the rows whose text the program doesn't have."""
     code = (ROOT / "crates" / "roam_cli" / "src" / "fault_text.rt").read_text(encoding="utf-8")
-    stands_for = {"number": "N", "wanted": "N", "seconds": "S", "endpoint": "ENDPOINT", "fault": "NAME", "why": "WHY", "what": "WHAT"}
-    # What begins with a colon stands behind a path, or behind the first word.
-    code = re.sub(r'"(: [^"]*")', r'"roam: PATH\1', code)
-    code = re.sub(r"PATH: (no such command|not a number of)", r"WORD: \1", code)
-    texts = {re.sub(r"\{(\w+)\}", lambda it: stands_for.get(it.group(1), "REASON"), it).replace("error REASON", "REASON")
-             for it in re.findall(r'"(roam: [^"]*?)(?:\\n)?"', code)} | COMPOSED
+    beginnings, endings = shown_by(code, "Beginning"), shown_by(code, "Ending")
+    texts = {re.sub(r"\{(\w+)\}", lambda it: HOLES.get(it.group(1), it.group(1).upper()),
+                    beginnings.get(name, beginnings["_"]) + ending)
+             for name, ending in endings.items() if ending}
     page = (ROOT / "docs" / "REFUSALS.md").read_text(encoding="utf-8")
     rows = set(re.findall(r"^\| `(roam: [^`]+)` \|", page, re.M)) | set(re.findall(r"behind `(roam: [^`]+)`", page))
-    # Of a text that is printed in parts the first one is found.
-    fronts = {it for it in texts if it.startswith("roam: cannot")}
-    texts = {next((row for row in rows if it in fronts and row.startswith(it)), it) for it in texts}
     return ([f"docs/REFUSALS.md has no row of the text {it!r}" for it in sorted(texts - rows)]
             + [f"the program has no text {it!r}, of which docs/REFUSALS.md has a row" for it in sorted(rows - texts)])
 

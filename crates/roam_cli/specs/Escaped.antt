@@ -22,7 +22,3 @@ escaped octets = flat_map escaped_octet octets
 -- the beginning of a message about a path, or about a word
 abbrev pub named_text : List ℕ → List ℕ
 named_text text = codes "roam: " ++ escaped text
-
--- the message, with what is said behind that
-abbrev pub about_text : List ℕ → List ℕ → List ℕ
-about_text text said = named_text text ++ said

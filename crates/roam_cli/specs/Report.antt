@@ -4,17 +4,14 @@ use Rattle.std.specs.Prelude.{◌≡◌, ℕ, List, [], ◌++◌, Option, Some, 
 use Rattle.std.specs.Fmt.{decimal}
 use Rattle.std.specs.Io.KnownBytes.{Appends}
 use Rattle.roam_diagnosis.specs.Lines.{IsDiagnosis, printed}
-use Rattle.roam_address.specs.declared.endpoint.Endpoint.{Endpoint}
 use Rattle.roam_address.specs.Endpoints.{endpoint_text}
 use Rattle.roam_conf_reader.specs.FaultNames.{name_of}
-use Rattle.roam_conf_reader.specs.declared.fault.ConfFault.{ConfFault}
 use Rattle.roam_keeping.specs.Obstacles.{obstacle_text}
-use Rattle.roam_sockets.specs.declared.fault.SocketPath.{SocketPath}
 use Rattle.roam_sockets.specs.declared.fault.ServeFault.{ServeFault}
 use Rattle.roam_sockets.specs.declared.fault.ServeFault.TheVariants as serve
 use Rattle.roam_sockets.specs.Faults.{path_octets}
 use Rattle.roam_sockets.specs.Words.{words_of}
-use Rattle.roam_cli.specs.Escaped.{escaped, named_text, about_text}
+use Rattle.roam_cli.specs.Escaped.{escaped, named_text}
 use Rattle.roam_cli.specs.declared.report.Fault.{Fault}
 use Rattle.roam_cli.specs.declared.report.Fault.TheVariants as fault
 
@@ -36,57 +33,6 @@ words_or_number None number = codes "error " ++ decimal number
 abbrev pub reason_text : ℕ → List ℕ
 reason_text number = words_or_number (words_of number) number
 
--- what is printed where a socket can't be bound to an endpoint
-abbrev pub unbound_text : Endpoint → List ℕ
-unbound_text endpoint = codes "roam: cannot bind " ++ endpoint_text endpoint
-
--- what is printed where a server can't listen at the path of its control socket
-abbrev pub unheard_text : SocketPath → List ℕ
-unheard_text path = codes "roam: cannot listen at " ++ escaped (path_octets path)
-
--- what is printed where a server can't keep its sessions in the file of a path
-abbrev pub no_state_text : SocketPath → List ℕ
-no_state_text path = codes "roam: cannot keep sessions in " ++ escaped (path_octets path)
-
--- why, behind that
-abbrev pub because_text : List ℕ → List ℕ
-because_text why = codes ": " ++ why ++ codes "\n"
-
--- which line of that file isn't UTF-8, behind its path
-abbrev pub not_text_text : ℕ → List ℕ
-not_text_text line = codes ":" ++ decimal line ++ codes ": isn't UTF-8\n"
-
--- what is printed of a first word with which no command begins
-abbrev pub unknown_text : List ℕ → List ℕ
-unknown_text word = about_text word (codes ": no such command\n")
-
--- what is printed of a word that stands where a number of milliseconds may, and is none
-abbrev pub untimed_text : List ℕ → List ℕ
-untimed_text word = about_text word (codes ": not a number of milliseconds from 1 to 86400000\n")
-
--- behind the path of a control socket: that no answer came in so many seconds; that a server which is asked to stop
--- hasn't ended in so many
-abbrev pub late_text : ℕ → List ℕ
-late_text seconds = codes ": no answer within " ++ decimal seconds ++ codes " s: it may still be carried out\n"
-
-abbrev pub still_text : ℕ → List ℕ
-still_text seconds = codes ": asked to stop, and still running after " ++ decimal seconds ++ codes " s\n"
-
--- that a server did not do what it was asked for, and what can be done
-abbrev pub declined_text : List ℕ → List ℕ
-declined_text what = codes ": declined, and nothing has changed: " ++ what ++ codes "\n"
-
--- behind the path of a file: by what name a configuration is refused; which line of a script is faulty
-abbrev pub refused_text : ConfFault → List ℕ
-refused_text why = codes ": " ++ name_of why ++ codes "\n"
-
-abbrev pub line_text : ℕ → List ℕ
-line_text number = codes ": line " ++ decimal number ++ codes "\n"
-
--- the system's reason after it, with the line feed
-abbrev pub why_text : ℕ → List ℕ
-why_text number = codes ": " ++ reason_text number ++ codes "\n"
-
 -- ## Text of a fault, status
 -- What is printed of each fault, with its line feed, and the status with which the program ends: 2 for the
 -- usage, also behind a word that is no command or no number of milliseconds, 3 for lack of memory, of something to wait
@@ -97,37 +43,65 @@ why_text number = codes ": " ++ reason_text number ++ codes "\n"
 -- Stands in: `roam_cli` `Report.antt`: `text_of`, `status_of`, `fault_of`, `usage_text`, `version_text`;
 -- `Fault::print`, `Fault::status`, `Fault::of_server`
 --
--- what is printed of a fault, with its line feed
+-- where the text of a fault begins: at the program, and the word, the path or what else it is about
+abbrev pub beginning_of : Fault → List ℕ
+beginning_of fault.Usage = []
+beginning_of (fault.NoCommand word) = named_text word.now ++ codes ": "
+beginning_of (fault.NoTime word) = named_text word.now ++ codes ": "
+beginning_of (fault.Unreadable path reason) = named_text path.now ++ codes ": "
+beginning_of (fault.NotText path line) = named_text path.now ++ codes ":" ++ decimal line ++ codes ": "
+beginning_of (fault.MayNotFollow path) = named_text path.now ++ codes ": "
+beginning_of (fault.Misstated path) = named_text path.now ++ codes ": "
+beginning_of (fault.Unanswered path why) = named_text path.now ++ codes ": "
+beginning_of (fault.Late path seconds) = named_text path.now ++ codes ": "
+beginning_of (fault.StillServes path seconds) = named_text path.now ++ codes ": "
+beginning_of (fault.Cut path) = named_text path.now ++ codes ": "
+beginning_of (fault.Declined path what) = named_text path.now ++ codes ": "
+beginning_of (fault.Refused path why) = named_text path.now ++ codes ": "
+beginning_of (fault.FaultyLine path number) = named_text path.now ++ codes ": "
+beginning_of (fault.Bind endpoint reason) = codes "roam: cannot bind " ++ endpoint_text endpoint ++ codes ": "
+beginning_of (fault.Control path reason) =
+    codes "roam: cannot listen at " ++ escaped (path_octets path) ++ codes ": "
+beginning_of (fault.State path why) =
+    codes "roam: cannot keep sessions in " ++ escaped (path_octets path) ++ codes ": "
+beginning_of (fault.Descriptors wanted) = codes "roam: too few file descriptors: "
+beginning_of (fault.Wait reason) = codes "roam: cannot wait for sockets: "
+beginning_of _ = codes "roam: "
+
+-- and how it ends, with a line feed: what is said of that, and the usage behind a wrong word
+abbrev pub ending_of : Fault → List ℕ
+ending_of fault.Usage = usage_text
+ending_of (fault.NoCommand word) = codes "no such command\n" ++ usage_text
+ending_of (fault.NoTime word) = codes "not a number of milliseconds from 1 to 86400000\n" ++ usage_text
+ending_of (fault.Unreadable path reason) = reason_text reason ++ codes "\n"
+ending_of (fault.NotText path line) = codes "isn't UTF-8\n"
+ending_of (fault.MayNotFollow path) = codes "needs a restart\n"
+ending_of (fault.Misstated path) = codes "its printed text is wrong\n"
+ending_of (fault.Unanswered path why) = why.now ++ codes "\n"
+ending_of (fault.Late path seconds) =
+    codes "no answer within " ++ decimal seconds ++ codes " s: it may still be carried out\n"
+ending_of (fault.StillServes path seconds) =
+    codes "asked to stop, and still running after " ++ decimal seconds ++ codes " s\n"
+ending_of (fault.Cut path) = codes "answer cut\n"
+ending_of (fault.Declined path what) = codes "declined, and nothing has changed: " ++ what.now ++ codes "\n"
+ending_of (fault.Refused path why) = name_of why ++ codes "\n"
+ending_of (fault.FaultyLine path number) = codes "line " ++ decimal number ++ codes "\n"
+ending_of fault.Write = codes "write failed\n"
+ending_of fault.Memory = codes "out of memory\n"
+ending_of fault.Clock = codes "no clock\n"
+ending_of fault.Seed = codes "no random seed\n"
+ending_of (fault.Bind endpoint reason) = reason_text reason ++ codes "\n"
+ending_of (fault.Control path reason) = reason_text reason ++ codes "\n"
+ending_of (fault.State path why) = obstacle_text why ++ codes "\n"
+ending_of (fault.Descriptors wanted) = decimal wanted ++ codes " wanted\n"
+ending_of (fault.Wait reason) = reason_text reason ++ codes "\n"
+ending_of fault.Thread = codes "cannot start a thread\n"
+ending_of fault.Receive = codes "receive failed\n"
+ending_of fault.Audit = codes "audit failed\n"
+
+-- what is printed of a fault
 abbrev pub text_of : Fault → List ℕ
-text_of fault.Usage = usage_text
-text_of (fault.NoCommand word) = unknown_text word.now ++ usage_text
-text_of (fault.NoTime word) = untimed_text word.now ++ usage_text
-text_of (fault.Unreadable path reason) = named_text path.now ++ why_text reason
-text_of (fault.NotText path line) = named_text path.now ++ not_text_text line
-text_of (fault.MayNotFollow path) = about_text path.now (codes ": needs a restart\n")
-text_of (fault.Misstated path) = about_text path.now (codes ": its printed text is wrong\n")
-text_of (fault.Unanswered path why) = named_text path.now ++ because_text why.now
-text_of (fault.Late path seconds) =
-    named_text path.now ++ late_text seconds
-text_of (fault.StillServes path seconds) =
-    named_text path.now ++ still_text seconds
-text_of (fault.Cut path) = about_text path.now (codes ": answer cut\n")
-text_of (fault.Declined path what) = named_text path.now ++ declined_text what.now
-text_of (fault.Refused path why) = named_text path.now ++ refused_text why
-text_of (fault.FaultyLine path number) = named_text path.now ++ line_text number
-text_of fault.Write = codes "roam: write failed\n"
-text_of fault.Memory = codes "roam: out of memory\n"
-text_of fault.Clock = codes "roam: no clock\n"
-text_of fault.Seed = codes "roam: no random seed\n"
-text_of (fault.Bind endpoint reason) = unbound_text endpoint ++ why_text reason
-text_of (fault.Control path reason) = unheard_text path ++ why_text reason
-text_of (fault.State path why) = no_state_text path ++ because_text (obstacle_text why)
-text_of (fault.Descriptors wanted) =
-    codes "roam: too few file descriptors: " ++ decimal wanted ++ codes " wanted\n"
-text_of (fault.Wait reason) = codes "roam: cannot wait for sockets: " ++ reason_text reason ++ codes "\n"
-text_of fault.Thread = codes "roam: cannot start a thread\n"
-text_of fault.Receive = codes "roam: receive failed\n"
-text_of fault.Audit = codes "roam: audit failed\n"
+text_of f = beginning_of f ++ ending_of f
 
 -- the status after a fault
 abbrev pub status_of : Fault → ℕ

@@ -1,11 +1,10 @@
 //! Paths, and words of the command line, as a message shows them.
 
-ghost use Rattle.std.specs.Prelude.{◌≡◌, ◌<◌, OnOk};
-ghost use Rattle.std.specs.Io.KnownBytes.{Appends};
+ghost use Rattle.std.specs.Prelude.{◌≡◌, ◌<◌, Some};
 ghost use Rattle.roam_cli.specs.Escaped as spec;
 
-use std::io;
-use std::io::Write;
+use std::fmt;
+use std::fmt::{Display, Formatter, Write};
 
 /// Returns a hexadecimal digit, in lower case.
 fn digit(number: u8) -> u8
@@ -26,43 +25,44 @@ fn is_shown(octet: u8) -> bool
     octet >= 32 && octet <= 126 && octet != b'\\'
 }
 
-/// Prints an octet: as it is, or as `\x` and two hexadecimal digits.
-fn print_octet<W: Write>(writer: &mut W, octet: u8) -> io::Result<()>
-    ensures { OnOk result
-        (Appends (W.contents writer.old) (W.contents writer.new) (spec.escaped_octet octet)) }
-{
-    if is_shown(octet) {
-        writer.write_all(&[octet])
-    } else {
-        writer.write_all(&[b'\\', b'x', digit(octet / 16), digit(octet % 16)])
+/// An octet as a message shows it: as it is, or as `\x` and two hexadecimal digits.
+#[derive(Clone, Copy)]
+struct EscapedOctet(u8);
+
+impl Display for EscapedOctet {
+    ghost output = { λ shown. Some (spec.escaped_octet shown.0) };
+
+    fn fmt<W: Write>(&self, f: &mut Formatter<W>) -> fmt::Result {
+        let octet = self.0;
+        if is_shown(octet) {
+            f.write_char(char::from(octet))
+        } else {
+            let high = char::from(digit(octet / 16));
+            let low = char::from(digit(octet % 16));
+            write!(f, "\\x{high}{low}")
+        }
     }
 }
 
-/// Prints octets, so that none steers a terminal or ends the line.
-pub(crate) fn print_escaped<W: Write>(writer: &mut W, octets: &[u8]) -> io::Result<()>
-    ensures { OnOk result
-        (Appends (W.contents writer.old) (W.contents writer.new) (spec.escaped octets.now)) }
-{
-    for octet in octets {
-        print_octet(writer, *octet)?;
+/// Octets as a message shows them: none steers a terminal or ends the line.
+#[derive(Clone, Copy)]
+pub(crate) struct Escaped<'a>(pub(crate) &'a [u8]);
+
+impl Display for Escaped<'_> {
+    ghost output = { λ shown. Some (spec.escaped shown.0.now) };
+
+    fn fmt<W: Write>(&self, f: &mut Formatter<W>) -> fmt::Result {
+        for octet in self.0 {
+            let shown = EscapedOctet(*octet);
+            write!(f, "{shown}")?;
+        }
+        Ok(())
     }
-    Ok(())
 }
 
-/// Prints which path, or which word, a message is about.
-pub(crate) fn print_named<W: Write>(writer: &mut W, text: &str) -> io::Result<()>
-    ensures { OnOk result
-        (Appends (W.contents writer.old) (W.contents writer.new) (spec.named_text text.now)) }
+/// Returns a path, or a word of the command line, as a message shows it.
+pub(crate) fn shown(text: &str) -> Escaped<'_>
+    ensures { result.0.now ≡ text.now }
 {
-    writer.write_all(b"roam: ")?;
-    print_escaped(writer, text.as_bytes())
-}
-
-/// Prints which path, or which word, a message is about, and what is said of it.
-pub(crate) fn print_about<W: Write>(writer: &mut W, text: &str, said: &[u8]) -> io::Result<()>
-    ensures { OnOk result
-        (Appends (W.contents writer.old) (W.contents writer.new) (spec.about_text text.now said.now)) }
-{
-    print_named(writer, text)?;
-    writer.write_all(said)
+    Escaped(text.as_bytes())
 }

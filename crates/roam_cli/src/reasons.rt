@@ -1,28 +1,24 @@
-//! The text of the system's reasons, and of a file that is no text.
+//! The system's reasons.
 
-ghost use Rattle.std.specs.Prelude.{OnOk};
-ghost use Rattle.std.specs.Io.KnownBytes.{Appends};
+ghost use Rattle.std.specs.Prelude.{Some};
 ghost use Rattle.roam_cli.specs.Report as spec;
 
 use roam_sockets::words_of;
-use std::io;
-use std::io::Write;
+use std::fmt;
+use std::fmt::{Display, Formatter, Write};
 
-/// Prints the system's reason, and ends the line.
-pub fn print_why<W: Write>(writer: &mut W, reason: u32) -> io::Result<()>
-    ensures { OnOk result
-        (Appends (W.contents writer.old) (W.contents writer.new) (spec.why_text reason)) }
-{
-    match words_of(reason) {
-        Some(words) => writeln!(writer, ": {words}"),
-        None => writeln!(writer, ": error {reason}"),
+/// The system's reason: the words of an error, or its number.
+#[derive(Clone, Copy)]
+pub(crate) struct ReasonText(pub(crate) u32);
+
+impl Display for ReasonText {
+    ghost output = { λ reason. Some (spec.reason_text reason.0) };
+
+    fn fmt<W: Write>(&self, f: &mut Formatter<W>) -> fmt::Result {
+        let reason = self.0;
+        match words_of(reason) {
+            Some(words) => write!(f, "{words}"),
+            None => write!(f, "error {reason}"),
+        }
     }
-}
-
-/// Prints which line of that file isn't UTF-8, and ends the line.
-pub fn print_no_text<W: Write>(writer: &mut W, line: u64) -> io::Result<()>
-    ensures { OnOk result
-        (Appends (W.contents writer.old) (W.contents writer.new) (spec.not_text_text line)) }
-{
-    writeln!(writer, ":{line}: isn't UTF-8")
 }
