@@ -9,10 +9,10 @@ ghost use Rattle.roam_conf_reader.specs.Document.{StatesClient, StatesEach, Stat
 ghost use Rattle.roam_conf_reader.specs.Reading.{IsValueFault};
 ghost use Rattle.roam_conf_reader.specs.Texts.{client_in};
 
-use crate::tables::{CLIENT_KEYS, has_only};
+use crate::tables::has_only;
 use crate::values::{Letters, value};
 use crate::{ConfFault, keys};
-use roam_conf::{Address, CoaClient, SharedSecret};
+use roam_conf::{Address, CoaClient, SharedSecret, client_table, realm_table};
 use std::alloc::Global;
 use toml::Table;
 use toml::value::Array;
@@ -30,12 +30,12 @@ fn client_text(table: &Table) -> Option<ClientText<'_>>
         ((c : CoaClientView) → ¬ (StatesClient (table_view table.now) c))
         (λ text. StatesClient (table_view table.now) (client_in text)) }
 {
-    if !has_only(table, &CLIENT_KEYS, &[]) {
+    if !has_only(table, &client_table::KEYS) {
         return None;
     }
     match (
-        keys::address(table, "ip"),
-        keys::text(table, "secret", 64, Letters::Any),
+        keys::address(table, client_table::IP.name),
+        keys::text(table, &client_table::SECRET, Letters::Any),
     ) {
         (Some(ip), Some(secret)) => Some(ClientText { ip, secret }),
         _ => None,
@@ -91,12 +91,12 @@ pub(crate) fn all_from(alloc: Global, table: &Table) -> Result<Vec<CoaClient>, C
         → ¬ (StatesFew StatesClient 8 (get_member (codes "coa_client") (table_view table.now)) vs) }
     ensures causes { IsValueFault result }
 {
-    let Some(value) = value(table, "coa_client") else {
+    let Some(value) = value(table, realm_table::COA_CLIENT.name) else {
         return Ok(Vec::new(alloc));
     };
     match value.as_array() {
         Some(items) => {
-            if items.len() > 8 {
+            if items.len() > realm_table::COA_CLIENT.form.most() as usize {
                 return Err(ConfFault::BadValue);
             }
             each_from(alloc, items)

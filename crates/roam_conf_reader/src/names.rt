@@ -10,6 +10,7 @@ ghost use Rattle.roam_conf_reader.specs.Values.{letters_of, optional_at};
 
 use crate::ConfFault;
 use crate::values::{Letters, text_of, value};
+use roam_conf::{peer_table, realm_table};
 use std::alloc::Global;
 use toml::value::Array;
 use toml::{Table, Value};
@@ -53,7 +54,7 @@ fn names_from(alloc: Global, value: &Value) -> Result<Vec<String>, ConfFault>
 {
     match value.as_array() {
         Some(items) => {
-            if items.is_empty() || items.len() > 1024 {
+            if items.is_empty() || items.len() > realm_table::PEERS.form.most() as usize {
                 return Err(ConfFault::BadValue);
             }
             each_from(alloc, items, 64)
@@ -70,7 +71,7 @@ pub(crate) fn of_peers(alloc: Global, table: &Table) -> Result<Option<Vec<String
         → optional_at spec.peer_names (codes "peers") (table_view table.now) ≡ None }
     ensures causes { IsValueFault result }
 {
-    match value(table, "peers") {
+    match value(table, realm_table::PEERS.name) {
         Some(value) => Ok(Some(names_from(alloc, value)?)),
         None => Ok(None),
     }
@@ -85,12 +86,12 @@ pub(crate) fn of_access_servers(alloc: Global, table: &Table) -> Result<Vec<Stri
         → spec.nas_ids (get_member (codes "nas_ids") (table_view table.now)) ≡ None }
     ensures causes { IsValueFault result }
 {
-    let Some(value) = value(table, "nas_ids") else {
+    let Some(value) = value(table, peer_table::NAS_IDS.name) else {
         return Ok(Vec::new(alloc));
     };
     match value.as_array() {
         Some(items) => {
-            if items.len() > 1024 {
+            if items.len() > peer_table::NAS_IDS.form.most() as usize {
                 return Err(ConfFault::BadValue);
             }
             each_from(alloc, items, 253)
