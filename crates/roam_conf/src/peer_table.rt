@@ -111,6 +111,7 @@ pub const ASK_CUI: Key = Key {
     purpose: "its Access-Requests ask for a Chargeable-User-Identity",
 };
 
+/// Each is `T`, a type; `26.V`, all of a vendor; or `26.V.T`, a type of a vendor.
 pub const REQUEST_WITHOUT: Key = Key {
     name: "request_without",
     required: false,

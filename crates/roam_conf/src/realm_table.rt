@@ -75,13 +75,12 @@ pub const PEER_SHARE: Key = Key {
     purpose: "requests of one client that may wait",
 };
 
-/// That is the part after its last `@`.
 pub const OWN_NAMES: Key = Key {
     name: "own_names",
     required: false,
     form: KeyForm::Flag,
     default: KeyDefault::Said("false"),
-    purpose: "an Access-Accept keeps a User-Name only if it has the request's realm part",
+    purpose: "an Access-Accept keeps a User-Name only if its part after the last `@` is the request's",
 };
 
 pub const CONVERSATIONS: Key = Key {

@@ -7,7 +7,7 @@ pub const TAKE: Key = Key {
     required: false,
     form: KeyForm::LocalEndpoints(0, 8),
     default: KeyDefault::Said("none"),
-    purpose: "where connections are taken",
+    purpose: "where connections of TCP are taken",
 };
 
 /// It is needed where `take` has an endpoint.

@@ -158,13 +158,12 @@ pub const ANSWER_UNNAMED: Key = Key {
     purpose: "`roam` itself answers an Accounting-Request without a User-Name",
 };
 
-/// Its Event-Timestamp is compared.
 pub const FRESH: Key = Key {
     name: "fresh",
     required: false,
     form: KeyForm::Number(10, 3600),
     default: KeyDefault::Said("not checked"),
-    purpose: "seconds by which a Disconnect- or CoA-Request may be off the clock",
+    purpose: "seconds that the Event-Timestamp of a Disconnect- or CoA-Request may be off the clock",
 };
 
 pub const PEER: Key = Key {
