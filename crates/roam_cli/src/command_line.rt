@@ -1,7 +1,7 @@
 //! The meaning of the words of a command line.
 
-ghost use Rattle.std.specs.Prelude.{[], ◌∷◌, codes, map, MatchOption};
-ghost use Rattle.roam_cli.specs.CommandLine.{Asks, AsksNothing, seed_of_file};
+ghost use Rattle.std.specs.Prelude.{[], ◌∷◌, map, MatchOption};
+ghost use Rattle.roam_cli.specs.CommandLine.{Asks, AsksNothing};
 ghost use Rattle.roam_cli.specs.Shown.{shown};
 
 use crate::control_words::{of_control, of_control_words, of_one_control_word};
@@ -103,119 +103,49 @@ fn of_one_word<'a>(word: &str) -> Option<Command<'a>>
     }
 }
 
-/// Returns what `check` and one word ask for.
-fn of_check<'a>(configuration: &'a str) -> Option<Command<'a>>
-    ensures { MatchOption result (AsksNothing (codes "check" ∷ configuration.now ∷ []))
-        (λ c. Asks (codes "check" ∷ configuration.now ∷ []) (shown c)) }
+/// Returns what two words ask for.
+fn of_two_words<'a>(word: &str, last: &'a str) -> Option<Command<'a>>
+    ensures { MatchOption result (AsksNothing (word.now ∷ last.now ∷ []))
+        (λ c. Asks (word.now ∷ last.now ∷ []) (shown c)) }
 {
-    match configuration {
-        "--all" => None,
-        _ => Some(Command::Check { configuration }),
-    }
-}
-
-/// Returns what `serve` and one word ask for.
-fn of_serve<'a>(configuration: &'a str) -> Option<Command<'a>>
-    ensures { MatchOption result (AsksNothing (codes "serve" ∷ configuration.now ∷ []))
-        (λ c. Asks (codes "serve" ∷ configuration.now ∷ []) (shown c)) }
-{
-    match configuration {
-        "--seed-of-file" => None,
-        _ => Some(Command::Serve {
+    match (word, last) {
+        ("check", "--all") | ("serve", "--seed-of-file") => None,
+        ("check", configuration) => Some(Command::Check { configuration }),
+        ("serve", configuration) => Some(Command::Serve {
             configuration,
             milliseconds: None,
         }),
-    }
-}
-
-/// Returns what two words ask for.
-fn of_two_words<'a>(word: &str, configuration: &'a str) -> Option<Command<'a>>
-    ensures { MatchOption result (AsksNothing (word.now ∷ configuration.now ∷ []))
-        (λ c. Asks (word.now ∷ configuration.now ∷ []) (shown c)) }
-{
-    match word {
-        "check" => of_check(configuration),
-        "serve" => of_serve(configuration),
-        "ctl" => of_one_control_word(configuration),
+        ("ctl", order) => of_one_control_word(order),
         _ => None,
-    }
-}
-
-/// Returns what `check` and two words ask for.
-fn of_check_of_two<'a>(first: &'a str, last: &'a str) -> Command<'a>
-    ensures { Asks (codes "check" ∷ first.now ∷ last.now ∷ []) (shown result) }
-{
-    match first {
-        "--all" => Command::CheckAll {
-            configuration: last,
-        },
-        _ => Command::Compare {
-            configuration: first,
-            next: last,
-        },
-    }
-}
-
-/// Returns what `serve` and two words ask for.
-fn of_serve_for<'a>(first: &'a str, last: &'a str) -> Option<Command<'a>>
-    ensures { MatchOption result (AsksNothing (codes "serve" ∷ first.now ∷ last.now ∷ []))
-        (λ c. Asks (codes "serve" ∷ first.now ∷ last.now ∷ []) (shown c)) }
-{
-    match first {
-        "--seed-of-file" => Some(Command::ServeWithItsSeed {
-            configuration: last,
-            milliseconds: None,
-        }),
-        _ => match decimal(last, 1, LONGEST) {
-            Some(milliseconds) => Some(Command::Serve {
-                configuration: first,
-                milliseconds: Some(milliseconds),
-            }),
-            None => None,
-        },
     }
 }
 
 /// Returns what three words ask for.
-fn of_three_words<'a>(word: &str, configuration: &'a str, last: &'a str) -> Option<Command<'a>>
-    ensures { MatchOption result (AsksNothing (word.now ∷ configuration.now ∷ last.now ∷ []))
-        (λ c. Asks (word.now ∷ configuration.now ∷ last.now ∷ []) (shown c)) }
+fn of_three_words<'a>(word: &str, first: &'a str, last: &'a str) -> Option<Command<'a>>
+    ensures { MatchOption result (AsksNothing (word.now ∷ first.now ∷ last.now ∷ []))
+        (λ c. Asks (word.now ∷ first.now ∷ last.now ∷ []) (shown c)) }
 {
-    match word {
-        "check" => Some(of_check_of_two(configuration, last)),
-        "sim" => Some(Command::Sim {
+    match (word, first, decimal(last, 1, LONGEST)) {
+        ("check", "--all", _) => Some(Command::CheckAll {
+            configuration: last,
+        }),
+        ("check", configuration, _) => Some(Command::Compare {
+            configuration,
+            next: last,
+        }),
+        ("sim", configuration, _) => Some(Command::Sim {
             configuration,
             script: last,
         }),
-        "serve" => of_serve_for(configuration, last),
-        "ctl" => of_control(configuration, last),
-        _ => None,
-    }
-}
-
-/// Returns what `serve`, `--seed-of-file` and two words ask for.
-fn of_serve_with_its_seed<'a>(configuration: &'a str, last: &str) -> Option<Command<'a>>
-    ensures { MatchOption result
-        (AsksNothing (codes "serve" ∷ seed_of_file ∷ configuration.now ∷ last.now ∷ []))
-        (λ c. Asks (codes "serve" ∷ seed_of_file ∷ configuration.now ∷ last.now ∷ []) (shown c)) }
-{
-    match decimal(last, 1, LONGEST) {
-        Some(milliseconds) => Some(Command::ServeWithItsSeed {
+        ("serve", "--seed-of-file", _) => Some(Command::ServeWithItsSeed {
+            configuration: last,
+            milliseconds: None,
+        }),
+        ("serve", configuration, Some(milliseconds)) => Some(Command::Serve {
             configuration,
             milliseconds: Some(milliseconds),
         }),
-        None => None,
-    }
-}
-
-/// Returns what `serve` and three words ask for.
-fn of_serve_words<'a>(option: &str, configuration: &'a str, last: &str) -> Option<Command<'a>>
-    ensures { MatchOption result
-        (AsksNothing (codes "serve" ∷ option.now ∷ configuration.now ∷ last.now ∷ []))
-        (λ c. Asks (codes "serve" ∷ option.now ∷ configuration.now ∷ last.now ∷ []) (shown c)) }
-{
-    match option {
-        "--seed-of-file" => of_serve_with_its_seed(configuration, last),
+        ("ctl", first, _) => of_control(first, last),
         _ => None,
     }
 }
@@ -231,9 +161,12 @@ fn of_four_words<'a>(
         (AsksNothing (word.now ∷ option.now ∷ configuration.now ∷ last.now ∷ []))
         (λ c. Asks (word.now ∷ option.now ∷ configuration.now ∷ last.now ∷ []) (shown c)) }
 {
-    match word {
-        "serve" => of_serve_words(option, configuration, last),
-        "ctl" => of_control_words(option, configuration, last),
+    match (word, option, decimal(last, 1, LONGEST)) {
+        ("serve", "--seed-of-file", Some(milliseconds)) => Some(Command::ServeWithItsSeed {
+            configuration,
+            milliseconds: Some(milliseconds),
+        }),
+        ("ctl", path, _) => of_control_words(path, configuration, last),
         _ => None,
     }
 }
