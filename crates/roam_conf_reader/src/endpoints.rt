@@ -65,7 +65,8 @@ fn from_value(alloc: Global, value: &Value, most: usize) -> Result<Vec<Endpoint>
 /// Reads the endpoints that a key of a table states: one, or an array of 1 to as many as it may have.
 pub(crate) fn at(alloc: Global, table: &Table, key: &Key) -> Result<Vec<Endpoint>, ConfFault>
     ensures ok { IfOk result
-        (λ v. spec.value_at (spec.endpoints (most_of key.now.form)) key.now.name.now (table_view table.now) ≡ Some v.items) }
+        (λ v. spec.value_at (spec.endpoints (most_of key.now.form)) key.now.name.now (table_view table.now)
+        ≡ Some v.items) }
     ensures bad { result ≡ Err ConfFault.BadValue
         → spec.value_at (spec.endpoints (most_of key.now.form)) key.now.name.now (table_view table.now) ≡ None }
     ensures causes { IsValueFault result }
@@ -84,9 +85,11 @@ pub(crate) fn at_if_there(
     key: &Key,
 ) -> Result<Vec<Endpoint>, ConfFault>
     ensures ok { IfOk result
-        (λ v. spec.endpoints_if_there (most_of key.now.form) (get_member key.now.name.now (table_view table.now)) ≡ Some v.items) }
+        (λ v. spec.endpoints_if_there (most_of key.now.form)
+        (get_member key.now.name.now (table_view table.now)) ≡ Some v.items) }
     ensures bad { result ≡ Err ConfFault.BadValue
-        → spec.endpoints_if_there (most_of key.now.form) (get_member key.now.name.now (table_view table.now)) ≡ None }
+        → spec.endpoints_if_there (most_of key.now.form)
+        (get_member key.now.name.now (table_view table.now)) ≡ None }
     ensures causes { IsValueFault result }
 {
     match value(table, key.name) {

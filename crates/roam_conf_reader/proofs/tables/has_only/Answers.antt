@@ -1,5 +1,3 @@
-use Rattle.std.proofs.Common.{◌≡◌, drop}
-use Rattle.toml.specs.View.{table_view}
 use Rattle.roam_conf_reader.proofs.KeyLemmas.{all_known-keys}
 use Rattle.roam_conf_reader.proofs.tables.has_only.Goals as goal
 
