@@ -1,9 +1,10 @@
 //! The further sources of reverse requests that tables state.
 
-ghost use Rattle.std.specs.Prelude.{◌≡◌, ◌≤◌, codes, Err, IfOk, List, MatchOption, map, vec_len};
+ghost use Rattle.std.specs.Prelude.{◌≡◌, Err, IfOk, List, MatchOption, map};
 ghost use Rattle.toml.specs.Data.{get_member};
 ghost use Rattle.toml.specs.View.{array_view, table_view};
 ghost use Rattle.roam_conf.specs.Config.{CoaClientView};
+ghost use Rattle.roam_conf.specs.KeyForms.{most_of};
 ghost use Rattle.roam_conf.specs.Parts.{shown_client};
 ghost use Rattle.roam_conf_reader.specs.Document.{StatesClient, StatesEach, StatesFew};
 ghost use Rattle.roam_conf_reader.specs.Reading.{IsValueFault};
@@ -12,7 +13,7 @@ ghost use Rattle.roam_conf_reader.specs.Texts.{client_in};
 use crate::tables::has_only;
 use crate::values::{Letters, value};
 use crate::{ConfFault, keys};
-use roam_conf::{Address, CoaClient, SharedSecret, client_table, realm_table};
+use roam_conf::{Address, CoaClient, Key, SharedSecret, client_table};
 use std::alloc::Global;
 use toml::Table;
 use toml::value::Array;
@@ -81,22 +82,22 @@ fn each_from(alloc: Global, items: &Array) -> Result<Vec<CoaClient>, ConfFault>
     Ok(all)
 }
 
-/// Reads the sources that a realm's table states, at most 8, and none where the key is absent.
+/// Reads the sources that a key of a realm's table states, as many as it may have, and none where the key is absent.
 #[tactic(auto, using(crate::proofs::ArrayLemmas::item_count_of))]
-pub(crate) fn all_from(alloc: Global, table: &Table) -> Result<Vec<CoaClient>, ConfFault>
-    ensures ok { IfOk result (λ v. StatesFew StatesClient 8 (get_member (codes "coa_client") (table_view table.now))
-        (map shown_client v.items)) }
-    ensures count { IfOk result (λ v. vec_len v ≤ 8) }
+pub(crate) fn all_from(alloc: Global, table: &Table, key: &Key) -> Result<Vec<CoaClient>, ConfFault>
+    ensures ok { IfOk result (λ v. StatesFew StatesClient (most_of key.now.form)
+        (get_member key.now.name.now (table_view table.now)) (map shown_client v.items)) }
     ensures bad { result ≡ Err ConfFault.BadValue → (vs : List CoaClientView)
-        → ¬ (StatesFew StatesClient 8 (get_member (codes "coa_client") (table_view table.now)) vs) }
+        → ¬ (StatesFew StatesClient (most_of key.now.form)
+        (get_member key.now.name.now (table_view table.now)) vs) }
     ensures causes { IsValueFault result }
 {
-    let Some(value) = value(table, realm_table::COA_CLIENT.name) else {
+    let Some(value) = value(table, key.name) else {
         return Ok(Vec::new(alloc));
     };
     match value.as_array() {
         Some(items) => {
-            if items.len() > realm_table::COA_CLIENT.form.most() as usize {
+            if items.len() > key.form.most() as usize {
                 return Err(ConfFault::BadValue);
             }
             each_from(alloc, items)

@@ -45,16 +45,17 @@ fn one_from(alloc: Global, value: &Value) -> Result<Vec<Prefix>, ConfFault>
     Ok(one)
 }
 
-/// Reads the prefixes that a value states: one, or an array of 1 to 8.
+/// Reads the prefixes that a value states: one, or an array of 1 to `most`.
 #[tactic(auto, using(crate::proofs::ArrayLemmas::item_count_of), unfolding(crate::specs::Values::prefixes))]
-fn from_value(alloc: Global, value: &Value) -> Result<Vec<Prefix>, ConfFault>
+fn from_value(alloc: Global, value: &Value, most: usize) -> Result<Vec<Prefix>, ConfFault>
+    requires { most ≡ 8 }
     ensures ok { IfOk result (λ v. spec.prefixes (view value.now) ≡ Some (map shown_prefix v.items)) }
     ensures bad { result ≡ Err ConfFault.BadValue → spec.prefixes (view value.now) ≡ None }
     ensures causes { IsValueFault result }
 {
     match value.as_array() {
         Some(items) => {
-            if items.is_empty() || items.len() > peer_table::IP.form.most() as usize {
+            if items.is_empty() || items.len() > most {
                 return Err(ConfFault::BadValue);
             }
             each_from(alloc, items)
@@ -72,7 +73,7 @@ pub(crate) fn at(alloc: Global, table: &Table) -> Result<Vec<Prefix>, ConfFault>
     ensures causes { IsValueFault result }
 {
     match value(table, peer_table::IP.name) {
-        Some(value) => from_value(alloc, value),
+        Some(value) => from_value(alloc, value, peer_table::IP.form.most() as usize),
         None => Err(ConfFault::BadValue),
     }
 }

@@ -167,7 +167,7 @@ fn from_table(alloc: Global, table: &Table) -> Result<Realm, ConfFault>
         conversations: text.conversations,
         by_user: text.by_user,
         own_sessions: text.own_sessions,
-        coa_clients: coa_client::all_from(alloc, table)?,
+        coa_clients: coa_client::all_from(alloc, table, &realm_table::COA_CLIENT)?,
         out: endpoints::at(alloc, table, &realm_table::OUT)?,
         reverse: endpoints::at_if_there(alloc, table, &realm_table::REVERSE)?,
         tries: text.tries,
