@@ -15,6 +15,7 @@
 //!   with the longest pattern; and whose reverse requests come from an address, with the secret shared with them |
 //!   `peer_meant`, `peer_by_nas_ip`, `peer_by_operator`, `home_of`, `secret_of_home`; laws
 //!   `whole_identifier_comes_first`, `longest_front_comes_next`
+//! - the key of a table with a name is the first one of its list | `key_of`, `keys_of`
 #![tactic(auto)]
 
 mod accounting;
