@@ -10,8 +10,9 @@ The parts, each a module of tools/making, whose head says of what it is made and
     theorem        docs/THEOREM.md, the headline with each definition under it
     definitions    docs/DEFINITIONS.md, all definitions; not kept in the repository
     metrics        the metrics in docs/FILES.md
+    keys           the tables of keys in docs/FILES.md and docs/TLS.md
     pictures       docs/pictures/*.svg
-    lists          the lists of packaging/installed/roam.8; keys, refusals, faults and usage stand once, and agree
+    lists          the lists of packaging/installed/roam.8; refusals, faults and usage stand once, and agree
     mistakes       mistakes/README.md
 """
 import importlib
@@ -20,7 +21,7 @@ import sys
 
 sys.dont_write_bytecode = True
 ROOT = pathlib.Path(__file__).resolve().parent.parent
-PARTS = ("asked", "theorem", "definitions", "metrics", "pictures", "lists", "mistakes")
+PARTS = ("asked", "theorem", "definitions", "metrics", "keys", "pictures", "lists", "mistakes")
 
 
 # The parts whose pages aren't kept: that they can be made is looked at.

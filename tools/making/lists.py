@@ -1,7 +1,7 @@
 """Holds the lists of keys and refusals together: each stands once, and everything else is made of it or compared with it.
 
-- The keys of a configuration: the table of docs/FILES.md. The manual page's are made of it, and the reader's own lists
-  (crates/roam_conf_reader/src/tables.rt) compared with it; each stands in examples/two-realms.conf.
+- The keys of a configuration: the one table of keys (crates/roam_conf/src/*_table.rt). The manual page's are made of it, as the table of
+  docs/FILES.md is (tools/making/keys.py); each stands in examples/two-realms.conf.
 - The refusals: the table of docs/REFUSALS.md. The manual page's are made of it, and the names in their order
   (crates/roam_wire/src/refusal.rt) compared with it.
 - The faults of a configuration: the table of docs/FILES.md. The manual page's are made of it, and the names in their order
@@ -11,6 +11,8 @@
 import pathlib
 import re
 import textwrap
+
+from making import keys
 
 ROOT = pathlib.Path(__file__).resolve().parents[2]
 MANUAL = ROOT / "packaging" / "installed" / "roam.8"
@@ -69,13 +71,12 @@ def as_sentence(text: str) -> str:
 
 
 def keys_in_mdoc() -> str:
-    rows, page = rows_of("FILES.md", "table"), []
+    page = []
     for table, head in HEADS.items():
         page.append(head + "\n.Bl -tag -width Ds")
-        for name, keys, value in rows:
-            if name == table and not value.startswith(("array of tables", "arrays of tables")):
-                page.append(".It " + " , ".join("Cm " + it.strip("`") for it in keys.split(", ")))
-                page.append(in_mdoc(as_sentence(value)))
+        for name, key, value in keys.rows():
+            if name == table and not value.startswith("array of tables"):
+                page += [f".It Cm {key}", in_mdoc(as_sentence(value))]
         page.append(".El\n.Pp")
     return "\n".join(page)
 
@@ -108,15 +109,6 @@ def manual() -> str:
     return page
 
 
-def keys_of_the_reader() -> dict[str, set[str]]:
-    """Returns the keys that the reader knows, by table."""
-    text = (ROOT / "crates" / "roam_conf_reader" / "src" / "tables.rt").read_text(encoding="utf-8")
-    found: dict[str, set[str]] = {}
-    for table, keys in re.findall(r"const (SERVER|CLIENT|PEER|REALM|TOP)(?:_OPTIONAL)?_KEYS: [^=]*= \[([^\]]*)\]", text):
-        found.setdefault({"CLIENT": "coa_client"}.get(table, table.lower()), set()).update(re.findall(r'"([a-z_0-9]+)"', keys))
-    return found
-
-
 def shown_by(code: str, part: str) -> dict[str, str]:
     """Returns the text that one part of a fault's text is, by the fault; `_` stands for those without an arm."""
     arms = code.split(f"impl Display for {part}", 1)[1].split("match self.0 {\n", 1)[1].split("\n        }\n", 1)[0]
@@ -143,15 +135,9 @@ def lost_texts() -> list[str]:
 
 def faults() -> list[str]:
     """Returns what doesn't agree."""
-    said, listed = [], {}
-    for table, keys, _ in rows_of("FILES.md", "table"):
-        listed.setdefault(table, set()).update(it.strip("`") for it in keys.split(", "))
-    for table, keys in keys_of_the_reader().items():
-        said += [f"docs/FILES.md lacks the key {it} of {table}" for it in sorted(keys - listed.get(table, set()))]
-        said += [f"docs/FILES.md has a key {it} of {table} that the reader doesn't know" for it in sorted(listed.get(table, set()) - keys)]
     shown = (ROOT / "examples" / "two-realms.conf").read_text(encoding="utf-8")
-    said += [f"examples/two-realms.conf lacks the key {it}" for keys in listed.values() for it in sorted(keys)
-             if not re.search(rf"^(?:{it} =|\[\[(?:\w+\.)?{it}\]\])", shown, re.M)]
+    said = [f"examples/two-realms.conf lacks the key {it} of {table}" for table, it, _ in keys.rows()
+            if not re.search(rf"^(?:{it} =|\[\[(?:\w+\.)?{it}\]\])", shown, re.M)]
     code = (ROOT / "crates" / "roam_wire" / "src" / "refusal.rt").read_text(encoding="utf-8")
     names = re.findall(r"^    ([A-Z][A-Za-z]+),$", code.split("pub enum Refusal {")[1].split("}")[0], re.M)
     # Each row has a line of the log, which begins `refused N NAME`.

@@ -53,6 +53,7 @@ mod restating;
 mod showing;
 mod simulation;
 mod stated_text;
+mod stated_values;
 mod stating;
 mod telling;
 mod text_file;

@@ -2,117 +2,20 @@
 
 use crate::basic_string::BasicString;
 use crate::stated_text::StatedText;
+use crate::stated_values::{
+    state_endpoint, state_endpoints, state_items, state_number, state_prefixes, state_text,
+};
 use roam_conf::{
-    Accounting, Address, CoaClient, Config, Endpoint, ExchangeLines, Peer, Prefix, Realm,
-    RealmPattern, Server,
+    Accounting, Address, CoaClient, Config, ExchangeLines, Peer, Realm, Server, client_table,
+    peer_table, realm_table, server_table, top_table,
 };
 use roam_conf_reader::{Settings, StationWord};
-use roam_wire::RemovedAttribute;
 use std::alloc::Global;
-use std::fmt::Display;
 use std::net::Ipv6Addr;
-
-/// A value of an array.
-trait Item {
-    /// States it as it stands in an array.
-    fn state(&self, text: &mut StatedText);
-}
-
-impl Item for Endpoint {
-    fn state(&self, text: &mut StatedText) {
-        text.put("\"", *self, "\"");
-    }
-}
-
-impl Item for Prefix {
-    fn state(&self, text: &mut StatedText) {
-        text.put("\"", *self, "\"");
-    }
-}
-
-impl Item for String {
-    fn state(&self, text: &mut StatedText) {
-        text.put("", BasicString(self.as_str()), "");
-    }
-}
-
-impl Item for RealmPattern {
-    fn state(&self, text: &mut StatedText) {
-        match self {
-            RealmPattern::Name(name) => text.put("\"", name.as_str(), "\""),
-            RealmPattern::Suffix(name) => text.put("\"*.", name.as_str(), "\""),
-            RealmPattern::Any => text.say("\"*\""),
-        }
-    }
-}
-
-impl Item for RemovedAttribute {
-    fn state(&self, text: &mut StatedText) {
-        match self {
-            RemovedAttribute::Kind(kind) => text.put("\"", *kind, "\""),
-            RemovedAttribute::Vendor(vendor) => text.put("\"26.", *vendor, "\""),
-            RemovedAttribute::VendorKind(vendor, kind) => {
-                text.put("\"26.", *vendor, ".");
-                text.put("", *kind, "\"");
-            }
-        }
-    }
-}
-
-/// States an array.
-fn state_items<T: Item>(text: &mut StatedText, key: &str, items: &[T]) {
-    text.put(key, " = [", "");
-    for (place, item) in items.iter().enumerate() {
-        if place > 0 {
-            text.say(", ");
-        }
-        item.state(text);
-    }
-    text.say("]\n");
-}
-
-/// States an endpoint where there is one.
-fn state_endpoint(text: &mut StatedText, key: &str, endpoint: &Option<Endpoint>) {
-    if let Some(endpoint) = endpoint {
-        text.put_quoted(key, *endpoint);
-    }
-}
-
-/// States the endpoints of the broker's own sockets of a kind: one as a text, several as an array.
-fn state_endpoints(text: &mut StatedText, key: &str, endpoints: &[Endpoint]) {
-    match endpoints {
-        [] => {}
-        [one] => text.put_quoted(key, *one),
-        several => state_items(text, key, several),
-    }
-}
-
-/// States the prefixes of a peer: one as a text, several as an array.
-fn state_prefixes(text: &mut StatedText, key: &str, prefixes: &[Prefix]) {
-    match prefixes {
-        [] => {}
-        [one] => text.put_quoted(key, *one),
-        several => state_items(text, key, several),
-    }
-}
-
-/// States a text where there is one.
-fn state_text(text: &mut StatedText, key: &str, value: &Option<String>) {
-    if let Some(value) = value {
-        text.put_value(key, BasicString(value.as_str()));
-    }
-}
-
-/// States a number where there is one.
-fn state_number<D: Display + Copy>(text: &mut StatedText, key: &str, number: Option<D>) {
-    if let Some(number) = number {
-        text.put_value(key, number);
-    }
-}
 
 /// States 32 octets as hexadecimal digits.
 fn state_seed(text: &mut StatedText, seed: &[u8; 32]) {
-    text.say("seed = \"");
+    text.put(top_table::SEED.name, " = \"", "");
     for octet in seed {
         text.put_octet(*octet);
     }
@@ -121,16 +24,20 @@ fn state_seed(text: &mut StatedText, seed: &[u8; 32]) {
 
 /// States what isn't in a table, but for how it is served.
 fn state_top(text: &mut StatedText, config: &Config) {
-    text.put_value("shards", config.top.shards);
+    text.put_value(top_table::SHARDS.name, config.top.shards);
     state_seed(text, &config.top.seed);
-    state_endpoints(text, "auth", config.auth.as_slice());
-    state_endpoints(text, "acct", config.acct.as_slice());
-    text.put_value("trace_limit", config.top.trace_limit);
-    text.put_value("trace_octets", config.top.trace_octets);
-    state_number(text, "max_hops", config.top.max_hops);
-    state_number(text, "max_attributes", config.top.max_attributes);
-    text.put_value("status_server", config.top.status_server);
-    text.put_value("spread", config.top.spread);
+    state_endpoints(text, top_table::AUTH.name, config.auth.as_slice());
+    state_endpoints(text, top_table::ACCT.name, config.acct.as_slice());
+    text.put_value(top_table::TRACE_LIMIT.name, config.top.trace_limit);
+    text.put_value(top_table::TRACE_OCTETS.name, config.top.trace_octets);
+    state_number(text, top_table::MAX_HOPS.name, config.top.max_hops);
+    state_number(
+        text,
+        top_table::MAX_ATTRIBUTES.name,
+        config.top.max_attributes,
+    );
+    text.put_value(top_table::STATUS_SERVER.name, config.top.status_server);
+    text.put_value(top_table::SPREAD.name, config.top.spread);
 }
 
 /// States of which exchanges a line tells, and how lines have a station.
@@ -140,30 +47,33 @@ fn state_lines(text: &mut StatedText, settings: &Settings) {
         ExchangeLines::OfFinal => "final",
         ExchangeLines::OfNone => "none",
     };
-    text.put_quoted("log_exchanges", exchanges);
+    text.put_quoted(top_table::LOG_EXCHANGES.name, exchanges);
     let station = match settings.log_station {
         StationWord::Clear => "clear",
         StationWord::Hmac => "hmac",
     };
-    text.put_quoted("log_station", station);
+    text.put_quoted(top_table::LOG_STATION.name, station);
 }
 
 /// States how a configuration is served.
 fn state_settings(text: &mut StatedText, settings: &Settings) {
-    state_endpoint(text, "metrics", &settings.metrics);
-    state_text(text, "control", &settings.control);
+    state_endpoint(text, top_table::METRICS.name, &settings.metrics);
+    state_text(text, top_table::CONTROL.name, &settings.control);
     state_lines(text, settings);
-    state_text(text, "state", &settings.state);
-    text.put_value("state_every", settings.state_every);
+    state_text(text, top_table::STATE.name, &settings.state);
+    text.put_value(top_table::STATE_EVERY.name, settings.state_every);
 }
 
 /// States the NAS-IP-Address and the NAS-IPv6-Address of a peer, where it has them.
 fn state_addresses(text: &mut StatedText, peer: &Peer) {
     if let Some(octets) = peer.nas_ip {
-        text.put_quoted("nas_ip", Address::from_ipv4_octets(octets));
+        text.put_quoted(peer_table::NAS_IP.name, Address::from_ipv4_octets(octets));
     }
     if let Some(octets) = peer.nas_ipv6 {
-        text.put_quoted("nas_ipv6", Ipv6Addr::from_octets(octets).hex_groups());
+        text.put_quoted(
+            peer_table::NAS_IPV6.name,
+            Ipv6Addr::from_octets(octets).hex_groups(),
+        );
     }
 }
 
@@ -174,28 +84,37 @@ fn state_operator(text: &mut StatedText, value: &Option<String>) {
         return;
     };
     if let Some((namespace, name)) = value.as_str().split_at_checked(1) {
-        text.put_value("operator_name", BasicString(name));
+        text.put_value(peer_table::OPERATOR_NAME.name, BasicString(name));
         if namespace != "1" {
-            text.put_value("operator_namespace", BasicString(namespace));
+            text.put_value(peer_table::OPERATOR_NAMESPACE.name, BasicString(namespace));
         }
     }
 }
 
 /// States a peer.
 fn state_peer(text: &mut StatedText, peer: &Peer) {
-    text.put("\n[[peer]]\nname = \"", peer.name.as_str(), "\"\n");
-    state_prefixes(text, "ip", peer.ips.as_slice());
-    text.put_value("secret", BasicString(peer.secret.as_str()));
-    state_endpoint(text, "coa", &peer.coa);
+    text.say("\n[[peer]]\n");
+    text.put_quoted(peer_table::NAME.name, peer.name.as_str());
+    state_prefixes(text, peer_table::IP.name, peer.ips.as_slice());
+    text.put_value(peer_table::SECRET.name, BasicString(peer.secret.as_str()));
+    state_endpoint(text, peer_table::COA.name, &peer.coa);
     state_addresses(text, peer);
-    state_text(text, "nas_id", &peer.nas_id);
-    state_items(text, "nas_ids", peer.nas_ids.as_slice());
-    text.put_value("require_seal", peer.require_seal);
-    text.put_value("limit_proxy_state", peer.limit_proxy_state);
+    state_text(text, peer_table::NAS_ID.name, &peer.nas_id);
+    state_items(text, peer_table::NAS_IDS.name, peer.nas_ids.as_slice());
+    text.put_value(peer_table::REQUIRE_SEAL.name, peer.require_seal);
+    text.put_value(peer_table::LIMIT_PROXY_STATE.name, peer.limit_proxy_state);
     state_operator(text, &peer.operator_name);
-    text.put_value("ask_cui", peer.ask_cui);
-    state_items(text, "request_without", peer.request_without.as_slice());
-    state_items(text, "reply_without", peer.reply_without.as_slice());
+    text.put_value(peer_table::ASK_CUI.name, peer.ask_cui);
+    state_items(
+        text,
+        peer_table::REQUEST_WITHOUT.name,
+        peer.request_without.as_slice(),
+    );
+    state_items(
+        text,
+        peer_table::REPLY_WITHOUT.name,
+        peer.reply_without.as_slice(),
+    );
 }
 
 /// Returns what becomes of a realm's accounting requests, as a word.
@@ -210,55 +129,74 @@ fn accounting_word(accounting: Accounting) -> &'static str {
 /// States who may ask for a realm, and what becomes of its requests.
 fn state_policy(text: &mut StatedText, realm: &Realm) {
     if let Some(peers) = &realm.peers {
-        state_items(text, "peers", peers.as_slice());
+        state_items(text, realm_table::PEERS.name, peers.as_slice());
     }
-    text.put_value("loop_prevention", realm.loop_prevention);
-    text.put_quoted("accounting", accounting_word(realm.accounting));
-    state_items(text, "request_without", realm.request_without.as_slice());
-    state_items(text, "reply_without", realm.reply_without.as_slice());
-    state_number(text, "share", realm.share);
-    state_number(text, "peer_share", realm.peer_share);
-    text.put_value("own_names", realm.own_names);
-    text.put_value("conversations", realm.conversations);
+    text.put_value(realm_table::LOOP_PREVENTION.name, realm.loop_prevention);
+    text.put_quoted(
+        realm_table::ACCOUNTING.name,
+        accounting_word(realm.accounting),
+    );
+    state_items(
+        text,
+        realm_table::REQUEST_WITHOUT.name,
+        realm.request_without.as_slice(),
+    );
+    state_items(
+        text,
+        realm_table::REPLY_WITHOUT.name,
+        realm.reply_without.as_slice(),
+    );
+    state_number(text, realm_table::SHARE.name, realm.share);
+    state_number(text, realm_table::PEER_SHARE.name, realm.peer_share);
+    text.put_value(realm_table::OWN_NAMES.name, realm.own_names);
+    text.put_value(realm_table::CONVERSATIONS.name, realm.conversations);
     if realm.by_user {
-        text.put_quoted("balance", "user");
+        text.put_quoted(realm_table::BALANCE.name, "user");
     }
-    text.put_value("own_sessions", realm.own_sessions);
+    text.put_value(realm_table::OWN_SESSIONS.name, realm.own_sessions);
 }
 
 /// States the limits of a realm.
 fn state_limits(text: &mut StatedText, realm: &Realm) {
-    text.put_value("tries", realm.tries);
-    text.put_value("wait", realm.wait);
-    text.put_value("rest", realm.rest);
-    text.put_value("rest_after", realm.rest_after);
-    text.put_value("hold", realm.hold);
-    text.put_value("max_pending", realm.max_pending);
-    text.put_value("max_sessions", realm.max_sessions);
+    text.put_value(realm_table::TRIES.name, realm.tries);
+    text.put_value(realm_table::WAIT.name, realm.wait);
+    text.put_value(realm_table::REST.name, realm.rest);
+    text.put_value(realm_table::REST_AFTER.name, realm.rest_after);
+    text.put_value(realm_table::HOLD.name, realm.hold);
+    text.put_value(realm_table::MAX_PENDING.name, realm.max_pending);
+    text.put_value(realm_table::MAX_SESSIONS.name, realm.max_sessions);
 }
 
 /// States a server.
 fn state_server(text: &mut StatedText, server: &Server) {
-    text.put("\n[[realm.server]]\n", "", "");
-    state_endpoint(text, "auth", &server.auth);
-    state_endpoint(text, "acct", &server.acct);
-    text.put_value("secret", BasicString(server.secret.as_str()));
-    text.put_value("require_seal", server.require_seal);
+    text.say("\n[[realm.server]]\n");
+    state_endpoint(text, server_table::AUTH.name, &server.auth);
+    state_endpoint(text, server_table::ACCT.name, &server.acct);
+    text.put_value(
+        server_table::SECRET.name,
+        BasicString(server.secret.as_str()),
+    );
+    text.put_value(server_table::REQUIRE_SEAL.name, server.require_seal);
 }
 
 /// States a further source of reverse requests.
 fn state_client(text: &mut StatedText, client: &CoaClient) {
-    text.put("\n[[realm.coa_client]]\nip = \"", client.ip, "\"\n");
-    text.put_value("secret", BasicString(client.secret.as_str()));
+    text.say("\n[[realm.coa_client]]\n");
+    text.put_quoted(client_table::IP.name, client.ip);
+    text.put_value(
+        client_table::SECRET.name,
+        BasicString(client.secret.as_str()),
+    );
 }
 
 /// States a realm.
 fn state_realm(text: &mut StatedText, realm: &Realm) {
-    text.put("\n[[realm]]\nname = \"", realm.name.as_str(), "\"\n");
-    state_items(text, "also", realm.also.as_slice());
+    text.say("\n[[realm]]\n");
+    text.put_quoted(realm_table::NAME.name, realm.name.as_str());
+    state_items(text, realm_table::ALSO.name, realm.also.as_slice());
     state_policy(text, realm);
-    state_endpoints(text, "out", realm.out.as_slice());
-    state_endpoints(text, "reverse", realm.reverse.as_slice());
+    state_endpoints(text, realm_table::OUT.name, realm.out.as_slice());
+    state_endpoints(text, realm_table::REVERSE.name, realm.reverse.as_slice());
     state_limits(text, realm);
     for server in &realm.servers {
         state_server(text, server);
@@ -272,10 +210,10 @@ fn state_realm(text: &mut StatedText, realm: &Realm) {
 fn state(text: &mut StatedText, config: &Config, settings: &Settings) {
     state_top(text, config);
     state_settings(text, settings);
-    state_items(text, "reject", config.reject.as_slice());
-    text.put_value("well_formed", config.top.well_formed);
-    text.put_value("answer_unnamed", config.top.answer_unnamed);
-    state_number(text, "fresh", config.top.fresh);
+    state_items(text, top_table::REJECT.name, config.reject.as_slice());
+    text.put_value(top_table::WELL_FORMED.name, config.top.well_formed);
+    text.put_value(top_table::ANSWER_UNNAMED.name, config.top.answer_unnamed);
+    state_number(text, top_table::FRESH.name, config.top.fresh);
     for peer in &config.peers {
         state_peer(text, peer);
     }

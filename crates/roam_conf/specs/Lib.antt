@@ -3,6 +3,8 @@ pub mod Config
 pub mod Consistent
 pub mod Duplicates
 pub mod Index
+pub mod KeyForms
+pub mod Keys
 pub mod Letters
 pub mod Lookup
 pub mod Operators

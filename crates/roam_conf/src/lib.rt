@@ -15,10 +15,12 @@
 //!   with the longest pattern; and whose reverse requests come from an address, with the secret shared with them |
 //!   `peer_meant`, `peer_by_nas_ip`, `peer_by_operator`, `home_of`, `secret_of_home`; laws
 //!   `whole_identifier_comes_first`, `longest_front_comes_next`
+//! - the key of a table with a name is the first one of its list | `key_of`, `keys_of`
 #![tactic(auto)]
 
 mod accounting;
 mod asking;
+pub mod client_table;
 mod coa_client;
 mod comparison;
 mod config;
@@ -28,6 +30,9 @@ mod exchange_lines;
 mod homes;
 mod index;
 mod indexes;
+mod key;
+mod key_forms;
+mod keys;
 mod laws;
 mod list_search;
 mod lookup;
@@ -41,15 +46,20 @@ mod pattern;
 mod peer;
 mod peer_index;
 mod peer_names;
+pub mod peer_table;
 mod place;
 mod realm;
+pub mod realm_table;
 mod removed;
 mod server;
+pub mod server_table;
 mod shared_secret;
+pub mod streams_table;
 mod target_index;
 mod target_lists;
 mod targets;
 mod top_keys;
+pub mod top_table;
 mod ways;
 mod well_formed;
 
@@ -59,6 +69,8 @@ pub use comparison::{is_same_endpoint, is_same_name};
 pub use config::Config;
 pub use exchange_lines::ExchangeLines;
 pub use indexes::has_duplicate_realm;
+pub use key::{Key, KeyDefault, KeyForm, KeyTable, NetworkForm};
+pub use keys::{key_of, keys_of};
 pub use laws::{
     any_name_comes_last, ill_formed_names_are_matched_whole, link_of_finds_each_link,
     link_of_finds_its_endpoint, longest_front_comes_next, longest_suffix_comes_next,

@@ -3,6 +3,7 @@ pub mod EachLemmas
 pub mod EndpointLemmas
 pub mod FaultLemmas
 pub mod ItemsLemmas
+pub mod KeyLemmas
 pub mod ListLemmas
 pub mod PairLemmas
 pub mod PrefixLemmas

@@ -9,7 +9,7 @@ use Rattle.std.proofs.lemmas.List.{length-map}
 use Rattle.toml.specs.Data.{Data, string, integer, array, table, Items, no_items, item, Members, get_member}
 use Rattle.roam_address.specs.declared.endpoint.Endpoint.{Endpoint}
 use Rattle.roam_address.proofs.TextLemmas.{endpoint_in-port}
-use Rattle.roam_conf_reader.specs.Document.{StatesEach}
+use Rattle.roam_conf_reader.specs.Document.{StatesEach, StatesFew}
 use Rattle.roam_conf_reader.specs.Operators.{operator_at, operator_if_both}
 use Rattle.roam_conf_reader.specs.declared.values.Letters.TheVariants.{Any, Digit}
 use Rattle.roam_conf_reader.specs.Values.{letters_of, namespace, number, number_or, text, text_fits, endpoint, array_of, item_count, value_at, optional_at, if_there}
@@ -141,6 +141,14 @@ each_count States no_items (value ∷ values) stated = absurd stated
 each_count States (item (table ms) items) [] stated = absurd stated
 each_count States (item (table ms) items) (value ∷ values) stated = ap suc (each_count States items values stated.1)
 each_count States (item found items) values stated = absurd stated
+
+-- at most so many values where at most so many tables may be there
+pub few_stated : {V : Type 0} (States : Members → V → Type 0) (most : ℕ) (found : Option Data) (values : List V) →
+    StatesFew States most found values → length values ≤ most
+few_stated States most None values stated = rw stated (omega arith)
+few_stated States most (Some (array items)) values stated =
+    omega (arith, stated.0, each_count States items values stated.1)
+few_stated States most (Some found) values stated = absurd stated
 
 pub each_range : {X V : Type 0} (States : Members → V → Type 0) (shown : X →
     V) (most : ℕ) (key : List ℕ) (members : Members) (items : Items) (values : List X) →

@@ -1,6 +1,8 @@
--- Lists of keys in the code, as lists of texts. Ours.
-use Rattle.std.specs.Prelude.{ℕ, List, map}
-use Rattle.std.specs.Borrow.{Bor}
+-- The keys that a table lacks, by the one table of keys. Ours.
+use Rattle.std.specs.Prelude.{Bool, ◌&&◌, not, is_some}
+use Rattle.toml.specs.Data.{Members, get_member}
+use Rattle.roam_conf.specs.declared.key.Key.{Key}
 
-abbrev pub shown_keys : List (Bor (List ℕ)) → List (List ℕ)
-shown_keys keys = map (λ key. key.now) keys
+-- the table must have the key, and doesn't
+abbrev pub lacks : Members → Key → Bool
+lacks members key = key.required && not (is_some (get_member key.name.now members))

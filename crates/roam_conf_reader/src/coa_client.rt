@@ -1,18 +1,19 @@
 //! The further sources of reverse requests that tables state.
 
-ghost use Rattle.std.specs.Prelude.{◌≡◌, ◌≤◌, codes, Err, IfOk, List, MatchOption, map, vec_len};
+ghost use Rattle.std.specs.Prelude.{◌≡◌, Err, IfOk, List, MatchOption, map};
 ghost use Rattle.toml.specs.Data.{get_member};
 ghost use Rattle.toml.specs.View.{array_view, table_view};
 ghost use Rattle.roam_conf.specs.Config.{CoaClientView};
+ghost use Rattle.roam_conf.specs.KeyForms.{most_of};
 ghost use Rattle.roam_conf.specs.Parts.{shown_client};
 ghost use Rattle.roam_conf_reader.specs.Document.{StatesClient, StatesEach, StatesFew};
 ghost use Rattle.roam_conf_reader.specs.Reading.{IsValueFault};
 ghost use Rattle.roam_conf_reader.specs.Texts.{client_in};
 
-use crate::tables::{CLIENT_KEYS, has_only};
+use crate::tables::has_only;
 use crate::values::{Letters, value};
 use crate::{ConfFault, keys};
-use roam_conf::{Address, CoaClient, SharedSecret};
+use roam_conf::{Address, CoaClient, Key, SharedSecret, client_table};
 use std::alloc::Global;
 use toml::Table;
 use toml::value::Array;
@@ -30,12 +31,12 @@ fn client_text(table: &Table) -> Option<ClientText<'_>>
         ((c : CoaClientView) → ¬ (StatesClient (table_view table.now) c))
         (λ text. StatesClient (table_view table.now) (client_in text)) }
 {
-    if !has_only(table, &CLIENT_KEYS, &[]) {
+    if !has_only(table, &client_table::KEYS) {
         return None;
     }
     match (
-        keys::address(table, "ip"),
-        keys::text(table, "secret", 64, Letters::Any),
+        keys::address(table, client_table::IP.name),
+        keys::text(table, &client_table::SECRET, Letters::Any),
     ) {
         (Some(ip), Some(secret)) => Some(ClientText { ip, secret }),
         _ => None,
@@ -81,22 +82,22 @@ fn each_from(alloc: Global, items: &Array) -> Result<Vec<CoaClient>, ConfFault>
     Ok(all)
 }
 
-/// Reads the sources that a realm's table states, at most 8, and none where the key is absent.
+/// Reads the sources that a key of a realm's table states, as many as it may have, and none where the key is absent.
 #[tactic(auto, using(crate::proofs::ArrayLemmas::item_count_of))]
-pub(crate) fn all_from(alloc: Global, table: &Table) -> Result<Vec<CoaClient>, ConfFault>
-    ensures ok { IfOk result (λ v. StatesFew StatesClient 8 (get_member (codes "coa_client") (table_view table.now))
-        (map shown_client v.items)) }
-    ensures count { IfOk result (λ v. vec_len v ≤ 8) }
+pub(crate) fn all_from(alloc: Global, table: &Table, key: &Key) -> Result<Vec<CoaClient>, ConfFault>
+    ensures ok { IfOk result (λ v. StatesFew StatesClient (most_of key.now.form)
+        (get_member key.now.name.now (table_view table.now)) (map shown_client v.items)) }
     ensures bad { result ≡ Err ConfFault.BadValue → (vs : List CoaClientView)
-        → ¬ (StatesFew StatesClient 8 (get_member (codes "coa_client") (table_view table.now)) vs) }
+        → ¬ (StatesFew StatesClient (most_of key.now.form)
+        (get_member key.now.name.now (table_view table.now)) vs) }
     ensures causes { IsValueFault result }
 {
-    let Some(value) = value(table, "coa_client") else {
+    let Some(value) = value(table, key.name) else {
         return Ok(Vec::new(alloc));
     };
     match value.as_array() {
         Some(items) => {
-            if items.len() > 8 {
+            if items.len() > key.form.most() as usize {
                 return Err(ConfFault::BadValue);
             }
             each_from(alloc, items)

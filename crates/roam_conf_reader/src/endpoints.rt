@@ -3,12 +3,13 @@
 ghost use Rattle.std.specs.Prelude.{◌≡◌, Err, IfOk, None, Some};
 ghost use Rattle.toml.specs.Data.{get_member};
 ghost use Rattle.toml.specs.View.{array_view, table_view, view};
+ghost use Rattle.roam_conf.specs.KeyForms.{most_of};
 ghost use Rattle.roam_conf_reader.specs.Reading.{IsValueFault};
 ghost use Rattle.roam_conf_reader.specs.Values as spec;
 
 use crate::ConfFault;
 use crate::values::{endpoint_of, value};
-use roam_conf::Endpoint;
+use roam_conf::{Endpoint, Key};
 use std::alloc::Global;
 use toml::value::Array;
 use toml::{Table, Value};
@@ -61,41 +62,38 @@ fn from_value(alloc: Global, value: &Value, most: usize) -> Result<Vec<Endpoint>
     }
 }
 
-/// Reads the endpoints that a key of a table states: one, or an array of 1 to `most`.
-pub(crate) fn at(
-    alloc: Global,
-    table: &Table,
-    key: &str,
-    most: usize,
-) -> Result<Vec<Endpoint>, ConfFault>
+/// Reads the endpoints that a key of a table states: one, or an array of 1 to as many as it may have.
+pub(crate) fn at(alloc: Global, table: &Table, key: &Key) -> Result<Vec<Endpoint>, ConfFault>
     ensures ok { IfOk result
-        (λ v. spec.value_at (spec.endpoints most) key.now (table_view table.now) ≡ Some v.items) }
+        (λ v. spec.value_at (spec.endpoints (most_of key.now.form)) key.now.name.now (table_view table.now)
+        ≡ Some v.items) }
     ensures bad { result ≡ Err ConfFault.BadValue
-        → spec.value_at (spec.endpoints most) key.now (table_view table.now) ≡ None }
+        → spec.value_at (spec.endpoints (most_of key.now.form)) key.now.name.now (table_view table.now) ≡ None }
     ensures causes { IsValueFault result }
 {
-    match value(table, key) {
-        Some(value) => from_value(alloc, value, most),
+    match value(table, key.name) {
+        Some(value) => from_value(alloc, value, key.form.most() as usize),
         None => Err(ConfFault::BadValue),
     }
 }
 
-/// Reads the endpoints that a key of a table states: one, or an array of 1 to `most`, and none where the key is
-/// absent.
+/// Reads the endpoints that a key of a table states: one, or an array of 1 to as many as it may have, and none
+/// where the key is absent.
 pub(crate) fn at_if_there(
     alloc: Global,
     table: &Table,
-    key: &str,
-    most: usize,
+    key: &Key,
 ) -> Result<Vec<Endpoint>, ConfFault>
     ensures ok { IfOk result
-        (λ v. spec.endpoints_if_there most (get_member key.now (table_view table.now)) ≡ Some v.items) }
+        (λ v. spec.endpoints_if_there (most_of key.now.form)
+        (get_member key.now.name.now (table_view table.now)) ≡ Some v.items) }
     ensures bad { result ≡ Err ConfFault.BadValue
-        → spec.endpoints_if_there most (get_member key.now (table_view table.now)) ≡ None }
+        → spec.endpoints_if_there (most_of key.now.form)
+        (get_member key.now.name.now (table_view table.now)) ≡ None }
     ensures causes { IsValueFault result }
 {
-    match value(table, key) {
-        Some(value) => from_value(alloc, value, most),
+    match value(table, key.name) {
+        Some(value) => from_value(alloc, value, key.form.most() as usize),
         None => Ok(Vec::new(alloc)),
     }
 }

@@ -4,12 +4,13 @@ ghost use Rattle.std.specs.Prelude.{◌≡◌, ◌≤◌, IfSome, option_map};
 ghost use Rattle.std.specs.Option.{option_copied};
 ghost use Rattle.toml.specs.Data.{get_member};
 ghost use Rattle.toml.specs.View.{table_view, array_view};
+ghost use Rattle.roam_conf.specs.KeyForms.{least_of, most_of, number_of};
 ghost use Rattle.roam_conf_reader.specs.Values as spec;
 ghost use Rattle.roam_conf_reader.specs.Values.{letters_of, value_at, optional_at};
 
 use crate::station_word::StationWord;
 use crate::values::{self, Letters, value};
-use roam_conf::{Accounting, Address, Endpoint, ExchangeLines};
+use roam_conf::{Accounting, Address, Endpoint, ExchangeLines, Key};
 use toml::value::Array;
 use toml::{Table, Value};
 
@@ -36,64 +37,70 @@ pub(crate) fn seed_or_zeros(table: &Table, key: &str) -> Option<[u8; 32]>
     }
 }
 
-/// Reads an array of 1 to `most` items.
-pub(crate) fn array<'a>(table: &'a Table, key: &str, most: usize) -> Option<&'a Array>
+/// Reads an array of 1 to as many items as the key may have.
+pub(crate) fn array<'a>(table: &'a Table, key: &Key) -> Option<&'a Array>
     ensures { option_map (λ a. array_view a.now) result
-        ≡ value_at (spec.array_of most) key.now (table_view table.now) }
+        ≡ value_at (spec.array_of (most_of key.now.form)) key.now.name.now (table_view table.now) }
 {
-    values::array_of(value(table, key)?, most)
+    values::array_of(value(table, key.name)?, key.form.most() as usize)
 }
 
-/// Reads a text of 1 to `most` octets, all of them among the letters.
-pub(crate) fn text<'a>(
-    table: &'a Table,
-    key: &str,
-    most: usize,
-    letters: Letters,
-) -> Option<&'a str>
+/// Reads a text of 1 to as many octets as the key may have, all of them among the letters.
+pub(crate) fn text<'a>(table: &'a Table, key: &Key, letters: Letters) -> Option<&'a str>
     ensures { option_copied result
-        ≡ value_at (spec.text most (letters_of letters)) key.now (table_view table.now) }
+        ≡ value_at (spec.text (most_of key.now.form) (letters_of letters)) key.now.name.now (table_view table.now) }
 {
-    values::text_of(value(table, key)?, most, letters)
+    values::text_of(value(table, key.name)?, key.form.most() as usize, letters)
 }
 
-/// Reads an integer from `least` to `most`, or returns `default` where the key is absent.
+/// Reads an integer in the range of the key, or returns `default` where the key is absent.
 #[tactic(auto, unfolding(crate::specs::Values::number_or))]
-pub(crate) fn number_or(
-    table: &Table,
-    key: &str,
-    default: u32,
-    least: u32,
-    most: u32,
-) -> Option<u32>
-    requires { (least ≤ default) × (default ≤ most) }
-    ensures value { result
-        ≡ spec.number_or default least most (get_member key.now (table_view table.now)) }
-    ensures bounds { IfSome result (λ n. (least ≤ n) × (n ≤ most)) }
+pub(crate) fn number_or(table: &Table, key: &Key, default: u32) -> Option<u32>
+    requires { (least_of key.now.form ≤ default) × (default ≤ most_of key.now.form) }
+    ensures value { result ≡ spec.number_or default (least_of key.now.form) (most_of key.now.form)
+        (get_member key.now.name.now (table_view table.now)) }
+    ensures bounds { IfSome result (λ n. (least_of key.now.form ≤ n) × (n ≤ most_of key.now.form)) }
 {
-    match value(table, key) {
-        Some(value) => values::number_of(value, least, most),
+    match value(table, key.name) {
+        Some(value) => values::number_of(value, key.form.least(), key.form.most()),
         None => Some(default),
     }
 }
 
-/// Reads an integer from 1 to `most`, or returns `Some(None)` where the key is absent.
-pub(crate) fn optional_octet(table: &Table, key: &str, most: u8) -> Option<Option<u8>>
-    ensures { result ≡ optional_at (spec.number 1 most) key.now (table_view table.now) }
+/// Reads an integer in the range of the key, or returns the key's default where it is absent.
+pub(crate) fn number(table: &Table, key: &Key) -> Option<u32>
+    requires { (least_of key.now.form ≤ number_of key.now.default)
+        × (number_of key.now.default ≤ most_of key.now.form) }
+    ensures value { result ≡ spec.number_or (number_of key.now.default) (least_of key.now.form)
+        (most_of key.now.form) (get_member key.now.name.now (table_view table.now)) }
+    ensures bounds { IfSome result (λ n. (least_of key.now.form ≤ n) × (n ≤ most_of key.now.form)) }
 {
-    match value(table, key) {
-        Some(value) => Some(Some(values::number_of(value, 1, u32::from(most))? as u8)),
+    number_or(table, key, key.default.number())
+}
+
+/// Reads an integer of up to 8 bits, in the range of the key, or returns `Some(None)` where the key is absent.
+pub(crate) fn optional_octet(table: &Table, key: &Key) -> Option<Option<u8>>
+    requires { most_of key.now.form ≤ 255 }
+    ensures { result ≡ optional_at (spec.number (least_of key.now.form) (most_of key.now.form))
+        key.now.name.now (table_view table.now) }
+{
+    match value(table, key.name) {
+        Some(value) => Some(Some(
+            values::number_of(value, key.form.least(), key.form.most())? as u8,
+        )),
         None => Some(None),
     }
 }
 
-/// Reads an integer of up to 16 bits, from `least` to `most`, or returns `Some(None)` where the key is absent.
-pub(crate) fn optional_count(table: &Table, key: &str, least: u16, most: u16) -> Option<Option<u16>>
-    ensures { result ≡ optional_at (spec.number least most) key.now (table_view table.now) }
+/// Reads an integer of up to 16 bits, in the range of the key, or returns `Some(None)` where the key is absent.
+pub(crate) fn optional_count(table: &Table, key: &Key) -> Option<Option<u16>>
+    requires { most_of key.now.form ≤ 65535 }
+    ensures { result ≡ optional_at (spec.number (least_of key.now.form) (most_of key.now.form))
+        key.now.name.now (table_view table.now) }
 {
-    match value(table, key) {
+    match value(table, key.name) {
         Some(value) => Some(Some(
-            values::number_of(value, u32::from(least), u32::from(most))? as u16,
+            values::number_of(value, key.form.least(), key.form.most())? as u16,
         )),
         None => Some(None),
     }
@@ -129,46 +136,18 @@ pub(crate) fn optional_endpoint(table: &Table, key: &str) -> Option<Option<Endpo
     }
 }
 
-/// Reads a text of 1 to `most` octets, or returns `Some(None)` where the key is absent.
-pub(crate) fn optional_text<'a>(table: &'a Table, key: &str, most: usize) -> Option<Option<&'a str>>
+/// Reads a text of 1 to as many octets as the key may have, or returns `Some(None)` where the key is absent.
+pub(crate) fn optional_text<'a>(
+    table: &'a Table,
+    key: &Key,
+    letters: Letters,
+) -> Option<Option<&'a str>>
     ensures { option_map (λ text. option_copied text) result
-        ≡ optional_at (spec.text most (letters_of Letters.Any)) key.now (table_view table.now) }
+        ≡ optional_at (spec.text (most_of key.now.form) (letters_of letters)) key.now.name.now
+        (table_view table.now) }
 {
-    match value(table, key) {
-        Some(value) => Some(Some(values::text_of(value, most, Letters::Any)?)),
-        None => Some(None),
-    }
-}
-
-/// Reads the namespace of an Operator-Name, a digit, or returns `Some(None)` where the key is absent.
-pub(crate) fn optional_namespace<'a>(table: &'a Table, key: &str) -> Option<Option<&'a str>>
-    ensures { option_map (λ text. option_copied text) result
-        ≡ optional_at spec.namespace key.now (table_view table.now) }
-{
-    match value(table, key) {
-        Some(value) => Some(Some(values::text_of(value, 1, Letters::Digit)?)),
-        None => Some(None),
-    }
-}
-
-/// Reads a path that the address of a UNIX socket has room for, or returns `Some(None)` where the key is absent.
-pub(crate) fn optional_socket_path<'a>(table: &'a Table, key: &str) -> Option<Option<&'a str>>
-    ensures { option_map (λ text. option_copied text) result
-        ≡ optional_at spec.socket_path key.now (table_view table.now) }
-{
-    match value(table, key) {
-        Some(value) => Some(Some(values::text_of(value, 107, Letters::NoZero)?)),
-        None => Some(None),
-    }
-}
-
-/// Reads a path of a file, or returns `Some(None)` where the key is absent.
-pub(crate) fn optional_file_path<'a>(table: &'a Table, key: &str) -> Option<Option<&'a str>>
-    ensures { option_map (λ text. option_copied text) result
-        ≡ optional_at spec.file_path key.now (table_view table.now) }
-{
-    match value(table, key) {
-        Some(value) => Some(Some(values::text_of(value, 1024, Letters::NoZero)?)),
+    match value(table, key.name) {
+        Some(value) => Some(Some(values::text_of(value, key.form.most() as usize, letters)?)),
         None => Some(None),
     }
 }

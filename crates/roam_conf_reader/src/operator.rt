@@ -5,7 +5,9 @@ ghost use Rattle.toml.specs.View.{table_view};
 ghost use Rattle.roam_conf_reader.specs.Operators.{operator_at, operator_said};
 ghost use Rattle.roam_conf_reader.specs.Reading.{IsMemoryFault};
 
+use crate::values::Letters;
 use crate::{ConfFault, keys};
+use roam_conf::peer_table;
 use std::alloc::Global;
 use toml::Table;
 
@@ -25,8 +27,8 @@ pub(crate) struct OperatorText<'a> {
 pub(crate) fn operator_text(table: &Table) -> Option<Option<OperatorText<'_>>>
     ensures { option_map (λ text. option_map operator_said text) result ≡ operator_at (table_view table.now) }
 {
-    let name = keys::optional_text(table, "operator_name", 252)?;
-    let namespace = keys::optional_namespace(table, "operator_namespace")?;
+    let name = keys::optional_text(table, &peer_table::OPERATOR_NAME, Letters::Any)?;
+    let namespace = keys::optional_text(table, &peer_table::OPERATOR_NAMESPACE, Letters::Digit)?;
     match (name, namespace) {
         (Some(name), Some(namespace)) => Some(Some(OperatorText { namespace, name })),
         (Some(name), None) => Some(Some(OperatorText {

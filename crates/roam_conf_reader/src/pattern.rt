@@ -4,6 +4,7 @@ ghost use Rattle.std.specs.Prelude.{◌≡◌, codes, Err, IfOk, None, Some, map
 ghost use Rattle.std.specs.List.{list_all};
 ghost use Rattle.toml.specs.Data.{get_member};
 ghost use Rattle.toml.specs.View.{array_view, table_view, view};
+ghost use Rattle.roam_conf.specs.KeyForms.{most_of};
 ghost use Rattle.roam_conf.specs.Patterns.{is_realm_name, is_reject, shown_pattern};
 ghost use Rattle.roam_conf_reader.specs.Reading.{IsValueFault};
 ghost use Rattle.roam_conf_reader.specs.Texts.{pattern_said};
@@ -11,7 +12,7 @@ ghost use Rattle.roam_conf_reader.specs.Values as spec;
 
 use crate::ConfFault;
 use crate::values::{Letters, text_fits, value};
-use roam_conf::RealmPattern;
+use roam_conf::{Key, RealmPattern, realm_table, top_table};
 use std::alloc::Global;
 use toml::value::Array;
 use toml::{Table, Value};
@@ -86,26 +87,22 @@ fn each_from(alloc: Global, items: &Array) -> Result<Vec<RealmPattern>, ConfFaul
     Ok(all)
 }
 
-/// Reads the patterns that a key of a table has, at most `most`, and none where it is absent.
+/// Reads the patterns that a key of a table has, as many as it may have, and none where it is absent.
 #[tactic(auto, using(crate::proofs::ArrayLemmas::item_count_of), unfolding(crate::specs::Values::list_of))]
-fn list_from(
-    alloc: Global,
-    table: &Table,
-    key: &str,
-    most: usize,
-) -> Result<Vec<RealmPattern>, ConfFault>
-    ensures ok { IfOk result (λ v. spec.list_of spec.pattern most (get_member key.now (table_view table.now))
-        ≡ Some (map shown_pattern v.items)) }
+fn list_from(alloc: Global, table: &Table, key: &Key) -> Result<Vec<RealmPattern>, ConfFault>
+    ensures ok { IfOk result (λ v. spec.list_of spec.pattern (most_of key.now.form)
+        (get_member key.now.name.now (table_view table.now)) ≡ Some (map shown_pattern v.items)) }
     ensures bad { result ≡ Err ConfFault.BadValue
-        → spec.list_of spec.pattern most (get_member key.now (table_view table.now)) ≡ None }
+        → spec.list_of spec.pattern (most_of key.now.form)
+        (get_member key.now.name.now (table_view table.now)) ≡ None }
     ensures causes { IsValueFault result }
 {
-    let Some(value) = value(table, key) else {
+    let Some(value) = value(table, key.name) else {
         return Ok(Vec::new(alloc));
     };
     match value.as_array() {
         Some(items) => {
-            if items.len() > most {
+            if items.len() > key.form.most() as usize {
                 return Err(ConfFault::BadValue);
             }
             each_from(alloc, items)
@@ -122,7 +119,7 @@ pub(crate) fn all_from(alloc: Global, table: &Table) -> Result<Vec<RealmPattern>
         → spec.list_of spec.pattern 256 (get_member (codes "also") (table_view table.now)) ≡ None }
     ensures causes { IsValueFault result }
 {
-    list_from(alloc, table, "also", 256)
+    list_from(alloc, table, &realm_table::ALSO)
 }
 
 /// Returns whether a pattern may be rejected.
@@ -156,7 +153,7 @@ pub(crate) fn rejects_from(alloc: Global, table: &Table) -> Result<Vec<RealmPatt
         → spec.rejects (get_member (codes "reject") (table_view table.now)) ≡ None }
     ensures causes { IsValueFault result }
 {
-    let patterns = list_from(alloc, table, "reject", 1024)?;
+    let patterns = list_from(alloc, table, &top_table::REJECT)?;
     if are_rejects(patterns.as_slice()) {
         Ok(patterns)
     } else {

@@ -11,10 +11,10 @@ ghost use Rattle.roam_conf_reader.specs.declared.peer.PeerText.{PeerText};
 ghost use Rattle.roam_conf_reader.specs.Texts.{StatesPeerBesideLists};
 
 use crate::operator::{OperatorText, operator_text};
-use crate::tables::{PEER_KEYS, PEER_OPTIONAL_KEYS, has_only};
+use crate::tables::has_only;
 use crate::values::Letters;
 use crate::{ConfFault, keys, names, operator, prefixes, removed};
-use roam_conf::{Endpoint, Peer, SharedSecret};
+use roam_conf::{Endpoint, Peer, SharedSecret, peer_table};
 use std::alloc::Global;
 use toml::Table;
 use toml::value::Array;
@@ -40,28 +40,28 @@ fn peer_text(table: &Table) -> Option<PeerText<'_>>
         ((p : PeerView) → ¬ (StatesPeer (table_view table.now) p))
         (λ text. StatesPeerBesideLists (table_view table.now) text) }
 {
-    if !has_only(table, &PEER_KEYS, &PEER_OPTIONAL_KEYS) {
+    if !has_only(table, &peer_table::KEYS) {
         return None;
     }
     let (Some(name), Some(secret)) = (
-        keys::text(table, "name", 64, Letters::PeerName),
-        keys::text(table, "secret", 64, Letters::Any),
+        keys::text(table, &peer_table::NAME, Letters::PeerName),
+        keys::text(table, &peer_table::SECRET, Letters::Any),
     ) else {
         return None;
     };
     let (Some(coa), Some(nas_ip), Some(nas_ipv6), Some(nas_id)) = (
-        keys::optional_endpoint(table, "coa"),
-        keys::optional_ipv4(table, "nas_ip"),
-        keys::optional_ipv6(table, "nas_ipv6"),
-        keys::optional_text(table, "nas_id", 253),
+        keys::optional_endpoint(table, peer_table::COA.name),
+        keys::optional_ipv4(table, peer_table::NAS_IP.name),
+        keys::optional_ipv6(table, peer_table::NAS_IPV6.name),
+        keys::optional_text(table, &peer_table::NAS_ID, Letters::Any),
     ) else {
         return None;
     };
     let (Some(require_seal), Some(limit_proxy_state), Some(operator), Some(ask_cui)) = (
-        keys::flag(table, "require_seal"),
-        keys::flag(table, "limit_proxy_state"),
+        keys::flag(table, peer_table::REQUIRE_SEAL.name),
+        keys::flag(table, peer_table::LIMIT_PROXY_STATE.name),
         operator_text(table),
-        keys::flag(table, "ask_cui"),
+        keys::flag(table, peer_table::ASK_CUI.name),
     ) else {
         return None;
     };
@@ -105,7 +105,7 @@ fn from_table(alloc: Global, table: &Table) -> Result<Peer, ConfFault>
     Ok(Peer {
         gone: false,
         name: String::from_str(alloc, text.name)?,
-        ips: prefixes::at(alloc, table, "ip")?,
+        ips: prefixes::at(alloc, table)?,
         coa: text.coa,
         nas_ip: text.nas_ip,
         nas_ipv6: text.nas_ipv6,

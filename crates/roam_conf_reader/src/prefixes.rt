@@ -1,6 +1,6 @@
 //! The addresses of a peer, as its table states them: a prefix, or a list of them.
 
-ghost use Rattle.std.specs.Prelude.{◌≡◌, Err, IfOk, None, Some, map};
+ghost use Rattle.std.specs.Prelude.{◌≡◌, codes, Err, IfOk, None, Some, map};
 ghost use Rattle.toml.specs.View.{array_view, table_view, view};
 ghost use Rattle.roam_address.specs.Prefixes.{shown_prefix};
 ghost use Rattle.roam_conf_reader.specs.Reading.{IsValueFault};
@@ -8,13 +8,10 @@ ghost use Rattle.roam_conf_reader.specs.Values as spec;
 
 use crate::ConfFault;
 use crate::values::{prefix_of, value};
-use roam_conf::Prefix;
+use roam_conf::{Prefix, peer_table};
 use std::alloc::Global;
 use toml::value::Array;
 use toml::{Table, Value};
-
-/// The most prefixes that a peer may have.
-const MOST: usize = 8;
 
 /// Reads the prefixes that the items of an array state, in its order.
 fn each_from(alloc: Global, items: &Array) -> Result<Vec<Prefix>, ConfFault>
@@ -48,16 +45,17 @@ fn one_from(alloc: Global, value: &Value) -> Result<Vec<Prefix>, ConfFault>
     Ok(one)
 }
 
-/// Reads the prefixes that a value states: one, or an array of 1 to 8.
+/// Reads the prefixes that a value states: one, or an array of 1 to `most`.
 #[tactic(auto, using(crate::proofs::ArrayLemmas::item_count_of), unfolding(crate::specs::Values::prefixes))]
-fn from_value(alloc: Global, value: &Value) -> Result<Vec<Prefix>, ConfFault>
+fn from_value(alloc: Global, value: &Value, most: usize) -> Result<Vec<Prefix>, ConfFault>
+    requires { most ≡ 8 }
     ensures ok { IfOk result (λ v. spec.prefixes (view value.now) ≡ Some (map shown_prefix v.items)) }
     ensures bad { result ≡ Err ConfFault.BadValue → spec.prefixes (view value.now) ≡ None }
     ensures causes { IsValueFault result }
 {
     match value.as_array() {
         Some(items) => {
-            if items.is_empty() || items.len() > MOST {
+            if items.is_empty() || items.len() > most {
                 return Err(ConfFault::BadValue);
             }
             each_from(alloc, items)
@@ -66,16 +64,16 @@ fn from_value(alloc: Global, value: &Value) -> Result<Vec<Prefix>, ConfFault>
     }
 }
 
-/// Reads the prefixes that a key of a table states: one, or an array of 1 to 8.
-pub(crate) fn at(alloc: Global, table: &Table, key: &str) -> Result<Vec<Prefix>, ConfFault>
+/// Reads the prefixes that a peer's table states: one, or an array of 1 to 8.
+pub(crate) fn at(alloc: Global, table: &Table) -> Result<Vec<Prefix>, ConfFault>
     ensures ok { IfOk result
-        (λ v. spec.value_at spec.prefixes key.now (table_view table.now) ≡ Some (map shown_prefix v.items)) }
+        (λ v. spec.value_at spec.prefixes (codes "ip") (table_view table.now) ≡ Some (map shown_prefix v.items)) }
     ensures bad { result ≡ Err ConfFault.BadValue
-        → spec.value_at spec.prefixes key.now (table_view table.now) ≡ None }
+        → spec.value_at spec.prefixes (codes "ip") (table_view table.now) ≡ None }
     ensures causes { IsValueFault result }
 {
-    match value(table, key) {
-        Some(value) => from_value(alloc, value),
+    match value(table, peer_table::IP.name) {
+        Some(value) => from_value(alloc, value, peer_table::IP.form.most() as usize),
         None => Err(ConfFault::BadValue),
     }
 }

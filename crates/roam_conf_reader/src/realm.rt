@@ -11,10 +11,10 @@ ghost use Rattle.roam_conf_reader.specs.Reading.{IsValueFault};
 ghost use Rattle.roam_conf_reader.specs.Texts.{StatesBesideLists};
 ghost use Rattle.roam_conf_reader.specs.Values.{accounting, array_of, value_at};
 
-use crate::tables::{REALM_KEYS, REALM_OPTIONAL_KEYS, has_only};
+use crate::tables::has_only;
 use crate::values::{Letters, value};
 use crate::{ConfFault, coa_client, endpoints, keys, names, pattern, removed, server};
-use roam_conf::{Accounting, Realm, Server};
+use roam_conf::{Accounting, Realm, Server, realm_table};
 use std::alloc::Global;
 use toml::value::Array;
 use toml::{Table, Value};
@@ -60,27 +60,27 @@ fn realm_text(table: &Table) -> Option<RealmText<'_>>
         (codes "server") (table_view table.now) ≡ Some (array_view text.servers.now))
         × (accounting (get_member (codes "accounting") (table_view table.now)) ≡ Some text.accounting)) }
 {
-    if !has_only(table, &REALM_KEYS, &REALM_OPTIONAL_KEYS) {
+    if !has_only(table, &realm_table::KEYS) {
         return None;
     }
     let (Some(name), Some(accounting), Some(by_user), Some(share), Some(peer_share)) = (
-        keys::text(table, "name", 253, Letters::RealmName),
-        keys::accounting(table, "accounting"),
-        keys::balance(table, "balance"),
-        keys::optional_count(table, "share", 1, 4096),
-        keys::optional_count(table, "peer_share", 1, 4096),
+        keys::text(table, &realm_table::NAME, Letters::RealmName),
+        keys::accounting(table, realm_table::ACCOUNTING.name),
+        keys::balance(table, realm_table::BALANCE.name),
+        keys::optional_count(table, &realm_table::SHARE),
+        keys::optional_count(table, &realm_table::PEER_SHARE),
     ) else {
         return None;
     };
     let (Some(loop_prevention), Some(own_names), Some(conversations), Some(own_sessions)) = (
-        keys::flag(table, "loop_prevention"),
-        keys::flag(table, "own_names"),
-        keys::flag(table, "conversations"),
-        keys::flag(table, "own_sessions"),
+        keys::flag(table, realm_table::LOOP_PREVENTION.name),
+        keys::flag(table, realm_table::OWN_NAMES.name),
+        keys::flag(table, realm_table::CONVERSATIONS.name),
+        keys::flag(table, realm_table::OWN_SESSIONS.name),
     ) else {
         return None;
     };
-    let default_sessions = sessions_unless_said(value(table, "reverse"));
+    let default_sessions = sessions_unless_said(value(table, realm_table::REVERSE.name));
     Some(RealmText {
         name,
         loop_prevention,
@@ -91,14 +91,14 @@ fn realm_text(table: &Table) -> Option<RealmText<'_>>
         conversations,
         by_user,
         own_sessions,
-        tries: keys::number_or(table, "tries", 3, 1, 10)? as u8,
-        wait: keys::number_or(table, "wait", 2000, 1, 60000)?,
-        hold: keys::number_or(table, "hold", 10000, 0, 60000)?,
-        max_pending: keys::number_or(table, "max_pending", 4096, 1, 4096)? as u16,
-        max_sessions: keys::number_or(table, "max_sessions", default_sessions, 0, 65536)?,
-        rest: keys::number_or(table, "rest", 30000, 0, 3600000)?,
-        rest_after: keys::number_or(table, "rest_after", 3, 1, 256)? as u16,
-        servers: keys::array(table, "server", 8)?,
+        tries: keys::number(table, &realm_table::TRIES)? as u8,
+        wait: keys::number(table, &realm_table::WAIT)?,
+        hold: keys::number(table, &realm_table::HOLD)?,
+        max_pending: keys::number(table, &realm_table::MAX_PENDING)? as u16,
+        max_sessions: keys::number_or(table, &realm_table::MAX_SESSIONS, default_sessions)?,
+        rest: keys::number(table, &realm_table::REST)?,
+        rest_after: keys::number(table, &realm_table::REST_AFTER)? as u16,
+        servers: keys::array(table, &realm_table::SERVER)?,
     })
 }
 
@@ -167,9 +167,9 @@ fn from_table(alloc: Global, table: &Table) -> Result<Realm, ConfFault>
         conversations: text.conversations,
         by_user: text.by_user,
         own_sessions: text.own_sessions,
-        coa_clients: coa_client::all_from(alloc, table)?,
-        out: endpoints::at(alloc, table, "out", 16)?,
-        reverse: endpoints::at_if_there(alloc, table, "reverse", 8)?,
+        coa_clients: coa_client::all_from(alloc, table, &realm_table::COA_CLIENT)?,
+        out: endpoints::at(alloc, table, &realm_table::OUT)?,
+        reverse: endpoints::at_if_there(alloc, table, &realm_table::REVERSE)?,
         tries: text.tries,
         wait: text.wait,
         hold: text.hold,

@@ -7,12 +7,13 @@ ghost use Rattle.roam_wire.specs.RemovedAttributes.{is_removal, is_removal_in_re
 ghost use Rattle.roam_wire.specs.RemovedAttributes.{is_one_of};
 ghost use Rattle.roam_conf_reader.specs.Reading.{IsValueFault};
 ghost use Rattle.roam_conf_reader.specs.Removals.{kept_of, may_name};
+ghost use Rattle.roam_conf.specs.KeyForms.{most_of};
 ghost use Rattle.roam_conf.specs.Texts.{removed_in};
 ghost use Rattle.roam_conf_reader.specs.Values as spec;
 
 use crate::ConfFault;
 use crate::values::value;
-use roam_conf::removed_attribute;
+use roam_conf::{Key, realm_table, removed_attribute};
 use roam_wire::RemovedAttribute;
 use std::alloc::Global;
 use toml::value::Array;
@@ -102,21 +103,22 @@ fn each_from(
 fn list_from(
     alloc: Global,
     table: &Table,
-    key: &str,
+    key: &Key,
     removals: Removals,
 ) -> Result<Vec<RemovedAttribute>, ConfFault>
-    ensures ok { IfOk result (λ v. spec.list_of (spec.removed (may_name removals)) 64
-        (get_member key.now (table_view table.now)) ≡ Some v.items) }
-    ensures bad { result ≡ Err ConfFault.BadValue → spec.list_of (spec.removed (may_name removals)) 64
-        (get_member key.now (table_view table.now)) ≡ None }
+    ensures ok { IfOk result (λ v. spec.list_of (spec.removed (may_name removals)) (most_of key.now.form)
+        (get_member key.now.name.now (table_view table.now)) ≡ Some v.items) }
+    ensures bad { result ≡ Err ConfFault.BadValue
+        → spec.list_of (spec.removed (may_name removals)) (most_of key.now.form)
+        (get_member key.now.name.now (table_view table.now)) ≡ None }
     ensures causes { IsValueFault result }
 {
-    let Some(value) = value(table, key) else {
+    let Some(value) = value(table, key.name) else {
         return Ok(Vec::new(alloc));
     };
     match value.as_array() {
         Some(items) => {
-            if items.len() > 64 {
+            if items.len() > key.form.most() as usize {
                 return Err(ConfFault::BadValue);
             }
             each_from(alloc, items, removals)
@@ -133,7 +135,12 @@ pub(crate) fn of_requests(alloc: Global, table: &Table) -> Result<Vec<RemovedAtt
         (get_member (codes "request_without") (table_view table.now)) ≡ None }
     ensures causes { IsValueFault result }
 {
-    list_from(alloc, table, "request_without", Removals::OfRequests)
+    list_from(
+        alloc,
+        table,
+        &realm_table::REQUEST_WITHOUT,
+        Removals::OfRequests,
+    )
 }
 
 /// Reads the attributes of replies that a table takes out, and none where the key is absent.
@@ -144,5 +151,10 @@ pub(crate) fn of_replies(alloc: Global, table: &Table) -> Result<Vec<RemovedAttr
         (get_member (codes "reply_without") (table_view table.now)) ≡ None }
     ensures causes { IsValueFault result }
 {
-    list_from(alloc, table, "reply_without", Removals::OfReplies)
+    list_from(
+        alloc,
+        table,
+        &realm_table::REPLY_WITHOUT,
+        Removals::OfReplies,
+    )
 }

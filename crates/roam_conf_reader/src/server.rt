@@ -8,10 +8,10 @@ ghost use Rattle.roam_conf_reader.specs.Document.{StatesEach, StatesServer};
 ghost use Rattle.roam_conf_reader.specs.Reading.{IsValueFault};
 ghost use Rattle.roam_conf_reader.specs.Texts.{server_in};
 
-use crate::tables::{SERVER_KEYS, SERVER_OPTIONAL_KEYS, has_only};
+use crate::tables::has_only;
 use crate::values::Letters;
 use crate::{ConfFault, keys};
-use roam_conf::{Endpoint, Server, SharedSecret};
+use roam_conf::{Endpoint, Server, SharedSecret, server_table};
 use std::alloc::Global;
 use toml::Table;
 use toml::value::Array;
@@ -31,14 +31,14 @@ fn server_text(table: &Table) -> Option<ServerText<'_>>
         ((s : ServerView) → ¬ (StatesServer (table_view table.now) s))
         (λ text. StatesServer (table_view table.now) (server_in text)) }
 {
-    if !has_only(table, &SERVER_KEYS, &SERVER_OPTIONAL_KEYS) {
+    if !has_only(table, &server_table::KEYS) {
         return None;
     }
     let (Some(auth), Some(acct), Some(secret), Some(require_seal)) = (
-        keys::optional_endpoint(table, "auth"),
-        keys::optional_endpoint(table, "acct"),
-        keys::text(table, "secret", 64, Letters::Any),
-        keys::flag(table, "require_seal"),
+        keys::optional_endpoint(table, server_table::AUTH.name),
+        keys::optional_endpoint(table, server_table::ACCT.name),
+        keys::text(table, &server_table::SECRET, Letters::Any),
+        keys::flag(table, server_table::REQUIRE_SEAL.name),
     ) else {
         return None;
     };

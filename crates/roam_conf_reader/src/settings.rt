@@ -8,8 +8,9 @@ ghost use Rattle.roam_conf_reader.specs.Settings.{IsNoSettings, StatesSettings};
 use crate::document::document;
 use crate::peer::copied;
 use crate::station_word::StationWord;
+use crate::values::Letters;
 use crate::{ConfFault, keys};
-use roam_conf::{Endpoint, ExchangeLines};
+use roam_conf::{Endpoint, ExchangeLines, top_table};
 use std::alloc::Global;
 use toml::Table;
 
@@ -39,16 +40,16 @@ pub(crate) fn settings_of(alloc: Global, table: &Table) -> Result<Settings, Conf
         → IfErr result (λ f. (f ≡ ConfFault.Memory) ⊎ IsNoSettings text f) }
 {
     let (Some(metrics), Some(control), Some(log_exchanges)) = (
-        keys::optional_endpoint(table, "metrics"),
-        keys::optional_socket_path(table, "control"),
-        keys::exchange_lines(table, "log_exchanges"),
+        keys::optional_endpoint(table, top_table::METRICS.name),
+        keys::optional_text(table, &top_table::CONTROL, Letters::NoZero),
+        keys::exchange_lines(table, top_table::LOG_EXCHANGES.name),
     ) else {
         return Err(ConfFault::BadValue);
     };
     let (Some(log_station), Some(state), Some(state_every)) = (
-        keys::station_word(table, "log_station"),
-        keys::optional_file_path(table, "state"),
-        keys::number_or(table, "state_every", 60, 1, 86400),
+        keys::station_word(table, top_table::LOG_STATION.name),
+        keys::optional_text(table, &top_table::STATE, Letters::NoZero),
+        keys::number(table, &top_table::STATE_EVERY),
     ) else {
         return Err(ConfFault::BadValue);
     };

@@ -9,9 +9,10 @@ ghost use Rattle.roam_conf_reader.specs.Reading.{IsValueFault};
 ghost use Rattle.roam_conf_reader.specs.Texts.{StatesBesideArrays};
 ghost use Rattle.roam_conf_reader.specs.Values.{array_of, value_at};
 
-use crate::tables::{TOP_KEYS, TOP_OPTIONAL_KEYS, has_only};
+use crate::tables::has_only;
+use crate::values::Letters;
 use crate::{ConfFault, endpoints, keys, pattern, peer, realm};
-use roam_conf::{ConfigParts, TopKeys};
+use roam_conf::{ConfigParts, TopKeys, top_table};
 use std::alloc::Global;
 use toml::Table;
 use toml::value::Array;
@@ -34,43 +35,43 @@ fn top_text(table: &Table) -> Option<TopText<'_>>
         ≡ Some (array_view text.peers.now)) × (value_at (array_of 1024) (codes "realm")
         (table_view table.now) ≡ Some (array_view text.realms.now))) }
 {
-    if !has_only(table, &TOP_KEYS, &TOP_OPTIONAL_KEYS) {
+    if !has_only(table, &top_table::KEYS) {
         return None;
     }
     let (Some(_), Some(_), Some(_), Some(_), Some(_), Some(_)) = (
-        keys::optional_endpoint(table, "metrics"),
-        keys::optional_socket_path(table, "control"),
-        keys::exchange_lines(table, "log_exchanges"),
-        keys::station_word(table, "log_station"),
-        keys::optional_file_path(table, "state"),
-        keys::number_or(table, "state_every", 60, 1, 86400),
+        keys::optional_endpoint(table, top_table::METRICS.name),
+        keys::optional_text(table, &top_table::CONTROL, Letters::NoZero),
+        keys::exchange_lines(table, top_table::LOG_EXCHANGES.name),
+        keys::station_word(table, top_table::LOG_STATION.name),
+        keys::optional_text(table, &top_table::STATE, Letters::NoZero),
+        keys::number(table, &top_table::STATE_EVERY),
     ) else {
         return None;
     };
     let (Some(status_server), Some(spread), Some(well_formed), Some(answer_unnamed)) = (
-        keys::flag(table, "status_server"),
-        keys::flag(table, "spread"),
-        keys::flag(table, "well_formed"),
-        keys::flag(table, "answer_unnamed"),
+        keys::flag(table, top_table::STATUS_SERVER.name),
+        keys::flag(table, top_table::SPREAD.name),
+        keys::flag(table, top_table::WELL_FORMED.name),
+        keys::flag(table, top_table::ANSWER_UNNAMED.name),
     ) else {
         return None;
     };
     Some(TopText {
         top: TopKeys {
-            shards: keys::number_or(table, "shards", 1, 1, 64)? as u16,
-            seed: keys::seed_or_zeros(table, "seed")?,
-            trace_limit: keys::number_or(table, "trace_limit", 100000, 1, 1000000)?,
-            trace_octets: keys::number_or(table, "trace_octets", 67108864, 1, 1073741824)?,
-            max_hops: keys::optional_octet(table, "max_hops", 100)?,
-            max_attributes: keys::optional_count(table, "max_attributes", 1, 2000)?,
+            shards: keys::number(table, &top_table::SHARDS)? as u16,
+            seed: keys::seed_or_zeros(table, top_table::SEED.name)?,
+            trace_limit: keys::number(table, &top_table::TRACE_LIMIT)?,
+            trace_octets: keys::number(table, &top_table::TRACE_OCTETS)?,
+            max_hops: keys::optional_octet(table, &top_table::MAX_HOPS)?,
+            max_attributes: keys::optional_count(table, &top_table::MAX_ATTRIBUTES)?,
             status_server,
             spread,
             well_formed,
             answer_unnamed,
-            fresh: keys::optional_count(table, "fresh", 10, 3600)?,
+            fresh: keys::optional_count(table, &top_table::FRESH)?,
         },
-        peers: keys::array(table, "peer", 1024)?,
-        realms: keys::array(table, "realm", 1024)?,
+        peers: keys::array(table, &top_table::PEER)?,
+        realms: keys::array(table, &top_table::REALM)?,
     })
 }
 
@@ -86,8 +87,8 @@ pub(crate) fn parts_from(alloc: Global, table: &Table) -> Result<ConfigParts, Co
     };
     Ok(ConfigParts {
         top: text.top,
-        auth: endpoints::at(alloc, table, "auth", 8)?,
-        acct: endpoints::at(alloc, table, "acct", 8)?,
+        auth: endpoints::at(alloc, table, &top_table::AUTH)?,
+        acct: endpoints::at(alloc, table, &top_table::ACCT)?,
         reject: pattern::rejects_from(alloc, table)?,
         peers: peer::all_from(alloc, text.peers)?,
         realms: realm::all_from(alloc, text.realms)?,

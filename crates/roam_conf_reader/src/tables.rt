@@ -6,98 +6,20 @@ ghost use Rattle.toml.specs.View.{table_view, array_view};
 ghost use Rattle.roam_conf_reader.specs.Document as spec;
 ghost use Rattle.roam_conf_reader.specs.Document.{has_key, is_nowhere, lacks_service, misses, none_has, servers_lack};
 ghost use Rattle.roam_conf_reader.specs.Document.{some_table, within};
-ghost use Rattle.roam_conf_reader.specs.Tables.{shown_keys};
+ghost use Rattle.roam_conf.specs.Keys.{names_of, optional_in, required_in};
+ghost use Rattle.roam_conf_reader.specs.Tables.{lacks};
 
 use crate::values::value;
+use roam_conf::{Key, client_table, peer_table, realm_table, server_table, top_table};
 use toml::value::Array;
 use toml::{Table, Value};
 
-/// The keys that a home server's table must have.
-pub(crate) const SERVER_KEYS: [&str; 1] = ["secret"];
-
-/// The keys that a home server's table may have besides: one at least of the first two.
-pub(crate) const SERVER_OPTIONAL_KEYS: [&str; 3] = ["auth", "acct", "require_seal"];
-
-/// The keys that a `coa_client` of a realm must have; it may have no other.
-pub(crate) const CLIENT_KEYS: [&str; 2] = ["ip", "secret"];
-
-/// The keys that a peer's table must have.
-pub(crate) const PEER_KEYS: [&str; 3] = ["name", "ip", "secret"];
-
-/// The keys that a peer's table may have besides.
-pub(crate) const PEER_OPTIONAL_KEYS: [&str; 12] = [
-    "coa",
-    "nas_ip",
-    "nas_ipv6",
-    "nas_id",
-    "nas_ids",
-    "require_seal",
-    "limit_proxy_state",
-    "operator_name",
-    "operator_namespace",
-    "ask_cui",
-    "request_without",
-    "reply_without",
-];
-
-/// The keys that a realm's table must have.
-pub(crate) const REALM_KEYS: [&str; 3] = ["name", "out", "server"];
-
-/// The keys that a realm's table may have besides.
-pub(crate) const REALM_OPTIONAL_KEYS: [&str; 21] = [
-    "also",
-    "peers",
-    "loop_prevention",
-    "accounting",
-    "request_without",
-    "reply_without",
-    "share",
-    "peer_share",
-    "own_names",
-    "conversations",
-    "balance",
-    "own_sessions",
-    "coa_client",
-    "reverse",
-    "tries",
-    "wait",
-    "hold",
-    "max_pending",
-    "max_sessions",
-    "rest",
-    "rest_after",
-];
-
-/// The keys that the document itself must have.
-pub(crate) const TOP_KEYS: [&str; 4] = ["auth", "acct", "peer", "realm"];
-
-/// The keys that the document itself may have besides.
-pub(crate) const TOP_OPTIONAL_KEYS: [&str; 18] = [
-    "shards",
-    "seed",
-    "trace_limit",
-    "max_hops",
-    "max_attributes",
-    "status_server",
-    "trace_octets",
-    "spread",
-    "metrics",
-    "control",
-    "log_exchanges",
-    "log_station",
-    "state",
-    "state_every",
-    "reject",
-    "well_formed",
-    "answer_unnamed",
-    "fresh",
-];
-
-fn is_one_of(keys: &[&str], key: &str) -> bool
-    ensures { result ≡ spec.is_one_of (shown_keys keys.now) key.now }
+/// Returns whether one of the keys has the name.
+fn is_one_of(keys: &[Key], name: &str) -> bool
+    ensures { result ≡ spec.is_one_of (names_of keys.now) name.now }
 {
-    for known in keys {
-        if key == *known {
+    for key in keys {
+        if name == key.name {
             return true;
         }
     }
@@ -105,24 +27,30 @@ fn is_one_of(keys: &[&str], key: &str) -> bool
 }
 
 /// Returns whether each key of the table is one of these.
-pub(crate) fn has_only(table: &Table, required: &[&str], optional: &[&str]) -> bool
-    ensures { result ≡ spec.has_only (shown_keys required.now) (shown_keys optional.now)
-        (table_view table.now) }
+pub(crate) fn has_only(table: &Table, keys: &[Key]) -> bool
+    ensures { result ≡ spec.has_only (required_in keys.now) (optional_in keys.now) (table_view table.now) }
 {
-    for key in table.keys() {
-        if !is_one_of(required, key.as_str()) && !is_one_of(optional, key.as_str()) {
+    for name in table.keys() {
+        if !is_one_of(keys, name.as_str()) {
             return false;
         }
     }
     true
 }
 
-/// Returns whether the table has each of these keys.
-fn has_all(table: &Table, keys: &[&str]) -> bool
-    ensures { result ≡ spec.has_all (shown_keys keys.now) (table_view table.now) }
+/// Returns whether the table must have the key, and doesn't.
+fn lacks(table: &Table, key: &Key) -> bool
+    ensures { result ≡ lacks (table_view table.now) key.now }
+{
+    key.required && value(table, key.name).is_none()
+}
+
+/// Returns whether the table has each of these keys that it must have.
+fn has_all(table: &Table, keys: &[Key]) -> bool
+    ensures { result ≡ spec.has_all (required_in keys.now) (table_view table.now) }
 {
     for key in keys {
-        if value(table, key).is_none() {
+        if lacks(table, key) {
             return false;
         }
     }
@@ -130,8 +58,8 @@ fn has_all(table: &Table, keys: &[&str]) -> bool
 }
 
 /// Returns whether one of the items is a table that misses one of these keys.
-fn some_misses(items: &Array, keys: &[&str]) -> bool
-    ensures { result ≡ some_table (misses (shown_keys keys.now)) (array_view items.now) }
+fn some_misses(items: &Array, keys: &[Key]) -> bool
+    ensures { result ≡ some_table (misses (required_in keys.now)) (array_view items.now) }
 {
     for value in items {
         if let Some(table) = value.as_table() {
@@ -144,8 +72,8 @@ fn some_misses(items: &Array, keys: &[&str]) -> bool
 }
 
 /// Returns whether a key of a table has an array with a table that misses one of these keys.
-fn some_misses_within(table: &Table, key: &str, keys: &[&str]) -> bool
-    ensures { result ≡ within (misses (shown_keys keys.now)) (get_member key.now (table_view table.now)) }
+fn some_misses_within(table: &Table, key: &str, keys: &[Key]) -> bool
+    ensures { result ≡ within (misses (required_in keys.now)) (get_member key.now (table_view table.now)) }
 {
     match value(table, key) {
         Some(value) => match value.as_array() {
@@ -248,9 +176,9 @@ fn servers_lack(table: &Table, forwarded: bool) -> bool
 fn realm_misses(table: &Table) -> bool
     ensures { result ≡ spec.realm_misses (table_view table.now) }
 {
-    !has_all(table, &REALM_KEYS)
-        || some_misses_within(table, "server", &SERVER_KEYS)
-        || some_misses_within(table, "coa_client", &CLIENT_KEYS)
+    !has_all(table, &realm_table::KEYS)
+        || some_misses_within(table, "server", &server_table::KEYS)
+        || some_misses_within(table, "coa_client", &client_table::KEYS)
         || servers_lack(table, forwards(table))
 }
 
@@ -286,7 +214,7 @@ fn realms_miss(table: &Table) -> bool
 pub(crate) fn document_misses(table: &Table) -> bool
     ensures { result ≡ spec.document_misses (table_view table.now) }
 {
-    !has_all(table, &TOP_KEYS)
-        || some_misses_within(table, "peer", &PEER_KEYS)
+    !has_all(table, &top_table::KEYS)
+        || some_misses_within(table, "peer", &peer_table::KEYS)
         || realms_miss(table)
 }

@@ -6,6 +6,7 @@ use crate::lines::Lines;
 use crate::place::TableKind;
 use crate::survey::Survey;
 use crate::{deliveries, known_secret, names, servers, sessions, sharing, slips};
+use roam_conf::{Key, realm_table};
 
 /// A choice that is unwise in a table, in what stands under a key.
 #[derive(Clone, Copy)]
@@ -69,21 +70,15 @@ pub(crate) enum Unwise {
 }
 
 /// Returns the number of a realm that the advice is about, also where it isn't written.
-fn number(at: Located<'_>, key: &str) -> u64 {
-    let default = match key {
-        "tries" => 3,
-        "wait" => 2000,
-        "hold" => 10000,
-        "max_pending" => 4096,
-        _ => 30000,
-    };
-    at.keys.number_or(key, default)
+fn number(at: Located<'_>, key: &Key) -> u64 {
+    at.keys.number_or(key.name, key.default.number())
 }
 
 /// Returns whether a server that rests does so for a shorter time than it takes to find that it is silent.
 fn has_short_rest(at: Located<'_>) -> bool {
-    let rest = number(at, "rest");
-    0 < rest && rest < number(at, "tries").saturating_mul(number(at, "wait"))
+    let rest = number(at, &realm_table::REST);
+    0 < rest
+        && rest < number(at, &realm_table::TRIES).saturating_mul(number(at, &realm_table::WAIT))
 }
 
 /// Returns whether an Access packet of a client, or of a server that has `auth`, may lack a Message-Authenticator.
@@ -114,8 +109,9 @@ impl Unwise {
     ) -> bool {
         match self {
             Unwise::Unsealed => is_unsealed(at),
-            Unwise::LongHold => number(at, "hold") > 30000,
-            Unwise::FewEntries => number(at, "max_pending") < number(at, "hold") / 1000,
+            Unwise::LongHold => number(at, &realm_table::HOLD) > 30000,
+            Unwise::FewEntries => number(at, &realm_table::MAX_PENDING)
+                < number(at, &realm_table::HOLD) / 1000,
             Unwise::ShortRest => has_short_rest(at),
             Unwise::ShortSecret => match at.keys.secret_length() {
                 Some(length) => length < 8 && !at.keys.has_known_secret(),

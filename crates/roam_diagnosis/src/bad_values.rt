@@ -2,14 +2,15 @@
 
 use crate::document::{Document, Located};
 use crate::form_words::say_misfit;
-use crate::forms::{ValueForm, is_list, misfit};
+use crate::forms::{is_list, misfit};
 use crate::hidden::{is_hidden, may_be_name};
 use crate::lines::Lines;
 use crate::nearest::nearest_key;
-use crate::network_forms::{NetworkForm, meant_prefix};
+use crate::network_forms::meant_prefix;
 use crate::place::{TableKind, name_of};
 use crate::quoted::quote;
-use crate::rules::{has_rule, header_of, owner_of, rules_of};
+use crate::rules::{has_key, header_of, keys_of, owner_of};
+use roam_conf::{KeyForm, NetworkForm};
 use toml::Value;
 
 /// The keys of a realm under which tables stand.
@@ -27,15 +28,15 @@ fn say_value(value: &Value, lines: &mut Lines) {
 }
 
 /// Says how a value that isn't of its form is mended, where that can be told by its type.
-fn say_remedy(form: ValueForm, value: &Value, header: &str, lines: &mut Lines) {
+fn say_remedy(form: KeyForm, value: &Value, header: &str, lines: &mut Lines) {
     match (form, value) {
-        (ValueForm::Number(..) | ValueForm::Flag, Value::String(_)) => {
+        (KeyForm::Number(..) | KeyForm::Flag, Value::String(_)) => {
             lines.say(": leave the quotation marks out");
         }
-        (ValueForm::Number(..), Value::Float(_)) => lines.say(": it is a whole number"),
-        (ValueForm::Number(..) | ValueForm::Flag, _) => {}
-        (ValueForm::Tables(..), Value::Table(_)) => lines.put(": write [[", header, "]]"),
-        (ValueForm::Tables(..), _) => {}
+        (KeyForm::Number(..), Value::Float(_)) => lines.say(": it is a whole number"),
+        (KeyForm::Number(..) | KeyForm::Flag, _) => {}
+        (KeyForm::Tables(..), Value::Table(_)) => lines.put(": write [[", header, "]]"),
+        (KeyForm::Tables(..), _) => {}
         (_, Value::String(text)) if is_list(form) => quote(": write [", text.as_str(), "]", lines),
         (_, Value::Integer(_) | Value::Float(_) | Value::Boolean(_)) if !is_list(form) => {
             lines.say(": put it in quotation marks");
@@ -53,12 +54,12 @@ fn say_length(length: Option<usize>, lines: &mut Lines) {
 }
 
 /// Says what is meant by a text where an address belongs: another prefix, or a name, as one that isn't shown may be.
-fn say_meant(form: ValueForm, text: &str, is_hidden: bool, lines: &mut Lines) {
+fn say_meant(form: KeyForm, text: &str, is_hidden: bool, lines: &mut Lines) {
     match (form, meant_prefix(text)) {
-        (ValueForm::Network(NetworkForm::Prefix), Some(prefix)) => {
+        (KeyForm::Network(NetworkForm::Prefix), Some(prefix)) => {
             lines.put(": did you mean \"", prefix, "\"?");
         }
-        (ValueForm::Network(_) | ValueForm::Endpoints(_) | ValueForm::LocalEndpoints(..), _) => {
+        (KeyForm::Network(_) | KeyForm::Endpoints(_) | KeyForm::LocalEndpoints(..), _) => {
             if is_hidden || may_be_name(text) {
                 lines.say(": names aren't looked up, so write the address");
             }
@@ -69,16 +70,16 @@ fn say_meant(form: ValueForm, text: &str, is_hidden: bool, lines: &mut Lines) {
 
 /// Returns the form that is told of what is shown: where one prefix or an array of them may stand, an array is told of
 /// only where one stands there.
-fn told_form(form: ValueForm, shown: &Value) -> ValueForm {
+fn told_form(form: KeyForm, shown: &Value) -> KeyForm {
     match (form, shown) {
-        (ValueForm::Prefixes(_), Value::Array(_)) => form,
-        (ValueForm::Prefixes(_), _) => ValueForm::Network(NetworkForm::Prefix),
+        (KeyForm::Prefixes(_), Value::Array(_)) => form,
+        (KeyForm::Prefixes(_), _) => KeyForm::Network(NetworkForm::Prefix),
         _ => form,
     }
 }
 
 /// Says what stands under a key and isn't of its form, unless it may be a secret.
-fn say_shown(key: &str, form: ValueForm, value: &Value, lines: &mut Lines) {
+fn say_shown(key: &str, form: KeyForm, value: &Value, lines: &mut Lines) {
     let shown = misfit(form, value);
     let form = told_form(form, shown);
     let is_hidden = is_hidden(key, shown);
@@ -95,13 +96,7 @@ fn say_shown(key: &str, form: ValueForm, value: &Value, lines: &mut Lines) {
 }
 
 /// Says that what stands under a key isn't of its form. A secret isn't shown.
-fn say_bad(
-    document: &Document<'_>,
-    at: Located<'_>,
-    key: &str,
-    form: ValueForm,
-    lines: &mut Lines,
-) {
+fn say_bad(document: &Document<'_>, at: Located<'_>, key: &str, form: KeyForm, lines: &mut Lines) {
     document.begin_line(at, key, lines);
     lines.say(": ");
     match at.keys.value(key) {
@@ -111,7 +106,7 @@ fn say_bad(
         }
         None => {
             say_misfit(form, lines);
-            if let ValueForm::Secret = form {
+            if let KeyForm::Secret(_) = form {
                 say_length(at.keys.secret_length(), lines);
             }
         }
@@ -162,14 +157,14 @@ fn say_nameless(document: &Document<'_>, at: Located<'_>, lines: &mut Lines) {
 
 /// Says which values of a table aren't of their form, and which keys it doesn't have.
 pub(crate) fn say_bad_values(document: &Document<'_>, at: Located<'_>, lines: &mut Lines) {
-    for rule in rules_of(at.place.kind) {
-        if !at.keys.fits(rule.0, rule.2) && !lines.is_full() {
-            say_bad(document, at, rule.0, rule.2, lines);
+    for key in keys_of(at.place.kind) {
+        if !at.keys.fits(key.name, key.form) && !lines.is_full() {
+            say_bad(document, at, key.name, key.form, lines);
         }
     }
     say_nameless(document, at, lines);
     for name in at.keys.names() {
-        if !has_rule(at.place.kind, name.as_str()) && !lines.is_full() {
+        if !has_key(at.place.kind, name.as_str()) && !lines.is_full() {
             say_unknown(document, at, name.as_str(), lines);
         }
     }

@@ -2,7 +2,8 @@
 
 ghost use Rattle.std.specs.Prelude.{◌≡◌, codes, IsNone};
 
-use crate::forms::{ValueForm, fits};
+use crate::forms::fits;
+use roam_conf::KeyForm;
 use std::collections::btree_map;
 use std::slice;
 use toml::{Table, Value};
@@ -23,7 +24,7 @@ impl<'a> Keys<'a> {
     }
 
     /// Returns whether the key is absent, or what stands under it is of the form.
-    pub(crate) fn fits(self, key: &str, form: ValueForm) -> bool {
+    pub(crate) fn fits(self, key: &str, form: KeyForm) -> bool {
         match self.table.get(key) {
             Some(value) => fits(form, value),
             None => true,

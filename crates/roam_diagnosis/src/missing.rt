@@ -5,13 +5,13 @@ use crate::keys::Keys;
 use crate::lines::Lines;
 use crate::place::{TableKind, name_of};
 use crate::quoted::quote;
-use crate::rules::{has_rule, rules_of};
+use crate::rules::{has_key, keys_of};
 use toml::Value;
 
 /// Finds the first key of a table that its kind doesn't have: an absent key may be misspelt there.
 fn first_unknown<'a>(at: Located<'a>) -> Option<&'a str> {
     for name in at.keys.names() {
-        if !has_rule(at.place.kind, name.as_str()) {
+        if !has_key(at.place.kind, name.as_str()) {
             return Some(name.as_str());
         }
     }
@@ -107,9 +107,9 @@ fn say_services(document: &Document<'_>, at: Located<'_>, lines: &mut Lines) {
 
 /// Says which required keys of a table are absent.
 pub(crate) fn say_missing(document: &Document<'_>, at: Located<'_>, lines: &mut Lines) {
-    for rule in rules_of(at.place.kind) {
-        if rule.1 && !at.keys.has(rule.0) && needs(at) && !lines.is_full() {
-            say(document, at, rule.0, lines);
+    for key in keys_of(at.place.kind) {
+        if key.required && !at.keys.has(key.name) && needs(at) && !lines.is_full() {
+            say(document, at, key.name, lines);
         }
     }
     say_services(document, at, lines);

@@ -1,7 +1,7 @@
 //! The key that is meant by one that no table of its kind has.
 
 use crate::place::TableKind;
-use crate::rules::rules_of;
+use crate::rules::keys_of;
 
 /// The number of octets that a key has at least for which another one is looked for.
 const LEAST: usize = 3;
@@ -69,9 +69,9 @@ pub(crate) fn nearest_key(kind: TableKind, key: &str) -> Option<&'static str> {
     if key.len() < LEAST {
         return None;
     }
-    for rule in rules_of(kind) {
-        if is_near(key.as_bytes(), rule.0.as_bytes()) {
-            return Some(rule.0);
+    for other in keys_of(kind) {
+        if is_near(key.as_bytes(), other.name.as_bytes()) {
+            return Some(other.name);
         }
     }
     None

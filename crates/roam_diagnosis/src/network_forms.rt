@@ -1,25 +1,7 @@
 //! The forms of addresses in texts, and the words for what doesn't fit.
 
-use roam_conf::{Address, Endpoint, Prefix, decimal};
+use roam_conf::{Address, Endpoint, NetworkForm, Prefix, decimal};
 use std::net::{IpAddr, Ipv6Addr};
-
-/// The form of an address or network in a text.
-#[derive(Clone, Copy)]
-pub(crate) enum NetworkForm {
-    Address,
-    /// An address of IPv4.
-    Ipv4,
-    /// An address of IPv6.
-    Ipv6,
-    /// A prefix, or an address.
-    Prefix,
-    /// An address and a port.
-    Endpoint,
-    /// An address of IPv4 and a port.
-    Ipv4Endpoint,
-    /// The same of 127.0.0.0/8.
-    LocalEndpoint,
-}
 
 /// The words for a text that is no address and no prefix.
 const NO_PREFIX: &str =
@@ -67,33 +49,31 @@ pub(crate) fn meant_prefix(text: &str) -> Option<Prefix> {
     Prefix::new(network, length)
 }
 
-impl NetworkForm {
-    /// Returns whether a text says that.
-    pub(crate) fn fits(self, text: &str) -> bool {
-        match self {
-            NetworkForm::Address => Address::from_text(text).is_some(),
-            NetworkForm::Ipv4 => is_address_of(text, false),
-            NetworkForm::Ipv6 => is_address_of(text, true),
-            NetworkForm::Prefix => Prefix::from_text(text).is_some(),
-            NetworkForm::Endpoint => Endpoint::from_text(text).is_some(),
-            NetworkForm::Ipv4Endpoint => is_ipv4_endpoint(text, false),
-            NetworkForm::LocalEndpoint => is_ipv4_endpoint(text, true),
-        }
+/// Returns whether a text is of the form.
+pub(crate) fn is_of(form: NetworkForm, text: &str) -> bool {
+    match form {
+        NetworkForm::Address => Address::from_text(text).is_some(),
+        NetworkForm::Ipv4 => is_address_of(text, false),
+        NetworkForm::Ipv6 => is_address_of(text, true),
+        NetworkForm::Prefix => Prefix::from_text(text).is_some(),
+        NetworkForm::Endpoint => Endpoint::from_text(text).is_some(),
+        NetworkForm::Ipv4Endpoint => is_ipv4_endpoint(text, false),
+        NetworkForm::LocalEndpoint => is_ipv4_endpoint(text, true),
     }
+}
 
-    /// Returns what a value isn't that doesn't fit.
-    pub(crate) fn misfit(self) -> &'static str {
-        match self {
-            NetworkForm::Address => "is no address, as \"192.0.2.1\" or \"2001:db8::1\"",
-            NetworkForm::Ipv4 => "is no IPv4 address in decimal, as \"192.0.2.1\"",
-            NetworkForm::Ipv6 => "is no IPv6 address, as \"2001:db8::1\"",
-            NetworkForm::Prefix => NO_PREFIX,
-            NetworkForm::Ipv4Endpoint | NetworkForm::LocalEndpoint => {
-                "is no IPv4 address with a port of 1..65535, as \"127.0.0.1:1812\""
-            }
-            NetworkForm::Endpoint => {
-                "is no address with a port of 1..65535, as \"192.0.2.1:1812\" or \"[2001:db8::1]:1812\""
-            }
+/// Returns what a value isn't that isn't of the form.
+pub(crate) fn misfit_of(form: NetworkForm) -> &'static str {
+    match form {
+        NetworkForm::Address => "is no address, as \"192.0.2.1\" or \"2001:db8::1\"",
+        NetworkForm::Ipv4 => "is no IPv4 address in decimal, as \"192.0.2.1\"",
+        NetworkForm::Ipv6 => "is no IPv6 address, as \"2001:db8::1\"",
+        NetworkForm::Prefix => NO_PREFIX,
+        NetworkForm::Ipv4Endpoint | NetworkForm::LocalEndpoint => {
+            "is no IPv4 address with a port of 1..65535, as \"127.0.0.1:1812\""
+        }
+        NetworkForm::Endpoint => {
+            "is no address with a port of 1..65535, as \"192.0.2.1:1812\" or \"[2001:db8::1]:1812\""
         }
     }
 }

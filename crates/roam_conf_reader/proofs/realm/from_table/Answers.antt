@@ -10,11 +10,11 @@ use Rattle.roam_conf.specs.declared.accounting.Accounting.TheVariants.{Forwarded
 use Rattle.roam_conf.specs.declared.server.Server.{Server}
 use Rattle.roam_conf.specs.Parts.{shown_client, shown_names, shown_server}
 use Rattle.roam_conf.specs.Patterns.{is_pattern, shown_pattern}
-use Rattle.roam_conf_reader.specs.Document.{StatesServer, sessions_unless_said, are_serving, some_auth, some_acct}
+use Rattle.roam_conf_reader.specs.Document.{StatesClient, StatesServer, sessions_unless_said, are_serving, some_auth, some_acct}
 use Rattle.roam_conf_reader.specs.Values.{pattern, removed}
 use Rattle.roam_conf_reader.proofs.EndpointLemmas.{endpoints_at, endpoints_if}
 use Rattle.roam_conf_reader.proofs.ListLemmas.{is_list_of, stated_pattern, stated_removed, few_names, auth_shown, acct_shown, not_serving}
-use Rattle.roam_conf_reader.proofs.RangeLemmas.{text_at, number_or_at, optional_number_at, each_range}
+use Rattle.roam_conf_reader.proofs.RangeLemmas.{text_at, number_or_at, optional_number_at, each_range, few_stated}
 use Rattle.roam_conf_reader.proofs.realm.from_table.Goals as goal
 
 few_sessions : (reverse : Option Data) → sessions_unless_said reverse ≤ 65536
@@ -89,7 +89,13 @@ invariant_of-result c =
       reply_removals = of_replies.all;
       share_range = optional_number_at 1 4096 (codes "share") members _ stated.share;
       peer_share_range = optional_number_at 1 4096 (codes "peer_share") members _ stated.peer_share;
-      coa_client_count = c.in_ok-all_from-2.ensures.count;
+      coa_client_count = omega (
+        arith,
+        few_stated StatesClient 8 (get_member (codes "coa_client") members) (map shown_client clients.items)
+            c.in_ok-all_from-2.ensures.ok,
+        clients.ok,
+        length-map clients.items shown_client,
+      );
       asked = λ here. some_auth_there c.in-Some.text.accounting servers.items serving;
       accounted = λ here. some_acct_there c.in-Some.text.accounting servers.items serving;
       out_count = (omega (arith, outs.size, out.ok), omega (arith, outs.size, out.ok));

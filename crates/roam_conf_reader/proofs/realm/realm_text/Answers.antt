@@ -17,42 +17,42 @@ no_sessions ms r default is none stated =
     rw is stated.max_sessions in
     none-some r.max_sessions (none ∙ found)
 
+pub returns-in_err-number : goal.returns-in_err-number
+returns-in_err-number c =
+    rw c.from_residual.ensures (λ r stated.
+    none-some r.tries (c.in_err-number.ensures.value ∙ stated.tries))
+
+pub returns-in_err-number-2 : goal.returns-in_err-number-2
+returns-in_err-number-2 c =
+    rw c.from_residual-in_err-number-2.ensures (λ r stated.
+    none-some r.wait (c.in_err-number-2.ensures.value ∙ stated.wait))
+
+pub returns-in_err-number-3 : goal.returns-in_err-number-3
+returns-in_err-number-3 c =
+    rw c.from_residual-in_err-number-3.ensures (λ r stated.
+    none-some r.hold (c.in_err-number-3.ensures.value ∙ stated.hold))
+
+pub returns-in_err-number-4 : goal.returns-in_err-number-4
+returns-in_err-number-4 c =
+    rw c.from_residual-in_err-number-4.ensures (λ r stated.
+    none-some r.max_pending (c.in_err-number-4.ensures.value ∙ stated.max_pending))
+
 pub returns-in_err-number_or : goal.returns-in_err-number_or
 returns-in_err-number_or c =
-    rw c.from_residual.ensures (λ r stated.
-    none-some r.tries (c.in_err-number_or.ensures.value ∙ stated.tries))
-
-pub returns-in_err-number_or-2 : goal.returns-in_err-number_or-2
-returns-in_err-number_or-2 c =
-    rw c.from_residual-in_err-number_or-2.ensures (λ r stated.
-    none-some r.wait (c.in_err-number_or-2.ensures.value ∙ stated.wait))
-
-pub returns-in_err-number_or-3 : goal.returns-in_err-number_or-3
-returns-in_err-number_or-3 c =
-    rw c.from_residual-in_err-number_or-3.ensures (λ r stated.
-    none-some r.hold (c.in_err-number_or-3.ensures.value ∙ stated.hold))
-
-pub returns-in_err-number_or-4 : goal.returns-in_err-number_or-4
-returns-in_err-number_or-4 c =
-    rw c.from_residual-in_err-number_or-4.ensures (λ r stated.
-    none-some r.max_pending (c.in_err-number_or-4.ensures.value ∙ stated.max_pending))
-
-pub returns-in_err-number_or-5 : goal.returns-in_err-number_or-5
-returns-in_err-number_or-5 c =
-    rw c.from_residual-in_err-number_or-5.ensures (λ r.
+    rw c.from_residual-in_err-number_or.ensures (λ r.
     no_sessions (table_view c.args.table.now) r c.sessions_unless_said-default_sessions.result
     (c.sessions_unless_said-default_sessions.ensures.value ∙ ap sessions_unless_said c.value.ensures)
-    c.in_err-number_or-5.ensures.value)
+    c.in_err-number_or.ensures.value)
 
-pub returns-in_err-number_or-6 : goal.returns-in_err-number_or-6
-returns-in_err-number_or-6 c =
-    rw c.from_residual-in_err-number_or-6.ensures (λ r stated.
-    none-some r.rest (c.in_err-number_or-6.ensures.value ∙ stated.rest))
+pub returns-in_err-number-5 : goal.returns-in_err-number-5
+returns-in_err-number-5 c =
+    rw c.from_residual-in_err-number-5.ensures (λ r stated.
+    none-some r.rest (c.in_err-number-5.ensures.value ∙ stated.rest))
 
-pub returns-in_err-number_or-7 : goal.returns-in_err-number_or-7
-returns-in_err-number_or-7 c =
-    rw c.from_residual-in_err-number_or-7.ensures (λ r stated.
-    none-some r.rest_after (c.in_err-number_or-7.ensures.value ∙ stated.rest_after))
+pub returns-in_err-number-6 : goal.returns-in_err-number-6
+returns-in_err-number-6 c =
+    rw c.from_residual-in_err-number-6.ensures (λ r stated.
+    none-some r.rest_after (c.in_err-number-6.ensures.value ∙ stated.rest_after))
 
 pub returns-in_err-array : goal.returns-in_err-array
 returns-in_err-array c =

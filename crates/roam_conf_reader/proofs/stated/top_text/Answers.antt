@@ -13,34 +13,34 @@ pub invariant_of-result : goal.invariant_of-result
 invariant_of-result c =
     let members = table_view c.args.table.now in
     record {
-      shards_range = c.in_ok-number_or.ensures.bounds;
-      trace_limit_range = c.in_ok-number_or-2.ensures.bounds;
-      trace_octets_range = c.in_ok-number_or-3.ensures.bounds;
+      shards_range = c.in_ok-number.ensures.bounds;
+      trace_limit_range = c.in_ok-number-2.ensures.bounds;
+      trace_octets_range = c.in_ok-number-3.ensures.bounds;
       max_hops_range = optional_number_at 1 100 (codes "max_hops") members _ (sym c.in_ok-optional_octet.ensures);
       max_attributes_range = optional_number_at 1 2000 (codes "max_attributes") members _
           (sym c.in_ok-optional_count.ensures);
       fresh_range = optional_number_at 10 3600 (codes "fresh") members _ (sym c.in_ok-optional_count-2.ensures);
     }
 
-pub returns-in_err-number_or : goal.returns-in_err-number_or
-returns-in_err-number_or c =
+pub returns-in_err-number : goal.returns-in_err-number
+returns-in_err-number c =
     rw c.from_residual.ensures (λ config stated.
-    none-some config.shards (c.in_err-number_or.ensures.value ∙ stated.shards))
+    none-some config.shards (c.in_err-number.ensures.value ∙ stated.shards))
 
 pub returns-in_err-seed_or_zeros : goal.returns-in_err-seed_or_zeros
 returns-in_err-seed_or_zeros c =
     rw c.from_residual-in_err-seed_or_zeros.ensures (λ config stated.
     none-some config.seed (c.in_err-seed_or_zeros.ensures ∙ stated.seed_octets))
 
-pub returns-in_err-number_or-2 : goal.returns-in_err-number_or-2
-returns-in_err-number_or-2 c =
-    rw c.from_residual-in_err-number_or-2.ensures (λ config stated.
-    none-some config.trace_limit (c.in_err-number_or-2.ensures.value ∙ stated.trace_limit))
+pub returns-in_err-number-2 : goal.returns-in_err-number-2
+returns-in_err-number-2 c =
+    rw c.from_residual-in_err-number-2.ensures (λ config stated.
+    none-some config.trace_limit (c.in_err-number-2.ensures.value ∙ stated.trace_limit))
 
-pub returns-in_err-number_or-3 : goal.returns-in_err-number_or-3
-returns-in_err-number_or-3 c =
-    rw c.from_residual-in_err-number_or-3.ensures (λ config stated.
-    none-some config.trace_octets (c.in_err-number_or-3.ensures.value ∙ stated.trace_octets))
+pub returns-in_err-number-3 : goal.returns-in_err-number-3
+returns-in_err-number-3 c =
+    rw c.from_residual-in_err-number-3.ensures (λ config stated.
+    none-some config.trace_octets (c.in_err-number-3.ensures.value ∙ stated.trace_octets))
 
 pub returns-in_err-optional_octet : goal.returns-in_err-optional_octet
 returns-in_err-optional_octet c =

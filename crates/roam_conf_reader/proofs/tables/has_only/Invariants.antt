@@ -1,12 +1,12 @@
 use Rattle.std.proofs.Common.{◌≡◌}
 use Rattle.toml.specs.View.{table_view}
+use Rattle.roam_conf.specs.Keys.{names_of, optional_in, required_in}
 use Rattle.roam_conf_reader.specs.Document.{has_only}
-use Rattle.roam_conf_reader.specs.Tables.{shown_keys}
-use Rattle.roam_conf_reader.proofs.ArrayLemmas.{all_known}
+use Rattle.roam_conf_reader.proofs.KeyLemmas.{all_known}
 use Rattle.roam_conf_reader.proofs.tables.has_only.Given as goal
 
-abbrev pub invariant-loop-key : goal.invariant-loop-key
-invariant-loop-key l =
-    (goal.iterator-loop-key).can_next l.key-iterator × (goal.iterator-loop-key).is_finite l.key-iterator
-    × (all_known (shown_keys l.required) (shown_keys l.optional) l.key-iterator
-    ≡ has_only (shown_keys l.fn.required) (shown_keys l.fn.optional) (table_view l.fn.table))
+abbrev pub invariant-loop-name : goal.invariant-loop-name
+invariant-loop-name l =
+    (goal.iterator-loop-name).can_next l.name-iterator × (goal.iterator-loop-name).is_finite l.name-iterator
+    × (all_known (names_of l.keys) l.name-iterator
+    ≡ has_only (required_in l.fn.keys) (optional_in l.fn.keys) (table_view l.fn.table))
