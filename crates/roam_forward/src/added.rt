@@ -82,12 +82,13 @@ fn operator_name_to_add<'a>(request: &View<'_>, shaping: &Shaping<'a>) -> Option
         then added_operator_name (shown_shaping shaping.now).operator_name
         (without (removed_by shaping.now.removal) request.now.attributes) else []) }
     ensures short { ForSome (option_map (λ name. name.now) result) (λ name. length name ≤ 253) }
+    ensures octets { ForSome (shown_shaping shaping.now).operator_name AreOctets }
 {
-    if shaping.operator_name.is_none() {
+    let Some(name) = shaping.operator_name else {
         return None;
-    }
+    };
     if takes_name(request, &shaping.removal) {
-        shaping.operator_name
+        Some(name)
     } else {
         None
     }
@@ -109,6 +110,7 @@ pub(crate) fn added_to<'a>(request: &View<'_>, shaping: &Shaping<'a>) -> Added<'
     requires { HasShortName (shown_shaping shaping.now) }
     ensures all { shown_added result ≡ all_added (shown_shaping shaping.now) request.now }
     ensures name { ForSome (option_map (λ name. name.now) result.operator_name) (λ name. length name ≤ 253) }
+    ensures octets { ForSome (shown_shaping shaping.now).operator_name AreOctets }
 {
     let challenge = challenge_to_add(request, &shaping.removal);
     let operator_name = operator_name_to_add(request, shaping);
@@ -117,20 +119,6 @@ pub(crate) fn added_to<'a>(request: &View<'_>, shaping: &Shaping<'a>) -> Added<'
         challenge,
         operator_name,
         cui,
-    }
-}
-
-/// Shows that a name's octets are octets. Does nothing when it runs.
-fn are_octets(name: &[u8])
-    ensures { AreOctets name.now }
-{}
-
-/// Shows that the octets of an Operator-Name are octets, if there is one.
-pub(crate) fn are_octets_of(name: Option<&[u8]>)
-    ensures { ForSome (option_map (λ name. name.now) name.entry) AreOctets }
-{
-    if let Some(name) = name {
-        are_octets(name);
     }
 }
 

@@ -16,7 +16,7 @@ ghost use Rattle.roam_shard.specs.Pausing.{states_under};
 use crate::paused::Paused;
 use crate::realm_numbers::{begin_at, opened_at};
 use roam_conf::Config;
-use roam_migrate::{FreshLanes, carry_over, changed_peers, reserve_carry};
+use roam_migrate::{FreshLanes, SettingsChange, carry_over, changed_peers, reserve_carry};
 use roam_realm::{RealmNumbers, RealmSettings};
 use roam_reload::is_carried;
 use roam_tables::Tables;
@@ -100,7 +100,12 @@ fn carried<A: Allocator + Copy>(
 {
     let old = RealmSettings::new(change.from, realm);
     let new = RealmSettings::new(change.to, realm);
-    carry_over(&old, &new, changed, entries, &mut numbers, lanes);
+    let settings = SettingsChange {
+        before: &old,
+        after: &new,
+        changed,
+    };
+    carry_over(&settings, entries, &mut numbers, lanes);
     numbers
 }
 
