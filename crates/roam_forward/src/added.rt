@@ -1,7 +1,7 @@
 //! The attributes that are added to a request before it is forwarded.
 
 ghost use Rattle.std.specs.Prelude.{◌≡◌, ◌+◌, ◌≤◌, ◌++◌, length, vec_len, vec_capacity};
-ghost use Rattle.std.specs.Prelude.{option_map, [], if◌then◌else◌};
+ghost use Rattle.std.specs.Prelude.{Some, option_map, [], if◌then◌else◌};
 ghost use Rattle.roam_wire.specs.Attributes.{count_of};
 ghost use Rattle.roam_wire.specs.Packet.{AreOctets, attribute_text, attributes_text};
 ghost use Rattle.roam_forward.specs.Removal.{removed_by};
@@ -74,6 +74,23 @@ fn takes_name(request: &View<'_>, removal: &Removal<'_>) -> bool
     takes_operator_name(request.code()) && count_without(request, removal, OPERATOR_NAME) == 0
 }
 
+/// Returns the Operator-Name of this value, where none passes of a request to which one is added.
+fn name_to_add<'a>(request: &View<'_>, removal: &Removal<'_>, name: &'a [u8]) -> Option<&'a [u8]>
+    requires { length name.now ≤ 253 }
+    ensures name { name_of (option_map (λ name. name.now) result)
+        ≡ (if takes_operator_name request.now.code
+        then added_operator_name (Some name.now)
+        (without (removed_by removal.now) request.now.attributes) else []) }
+    ensures short { ForSome (option_map (λ name. name.now) result) (λ name. length name ≤ 253) }
+    ensures octets { AreOctets name.now }
+{
+    if takes_name(request, removal) {
+        Some(name)
+    } else {
+        None
+    }
+}
+
 /// Returns the Operator-Name that is added, where the peer has one and none passes.
 fn operator_name_to_add<'a>(request: &View<'_>, shaping: &Shaping<'a>) -> Option<&'a [u8]>
     requires { HasShortName (shown_shaping shaping.now) }
@@ -84,13 +101,9 @@ fn operator_name_to_add<'a>(request: &View<'_>, shaping: &Shaping<'a>) -> Option
     ensures short { ForSome (option_map (λ name. name.now) result) (λ name. length name ≤ 253) }
     ensures octets { ForSome (shown_shaping shaping.now).operator_name AreOctets }
 {
-    let Some(name) = shaping.operator_name else {
-        return None;
-    };
-    if takes_name(request, &shaping.removal) {
-        Some(name)
-    } else {
-        None
+    match shaping.operator_name {
+        Some(name) => name_to_add(request, &shaping.removal, name),
+        None => None,
     }
 }
 
