@@ -10,7 +10,8 @@ use Rattle.roam_random.specs.RandomWords.{request_authenticator_at, word_octets}
 use Rattle.roam_random.proofs.OctetLemmas.{authenticator-octets}
 use Rattle.roam_forward.specs.Forwarded.{CanBeForwarded, Forwarding, forwarded}
 use Rattle.roam_forward.specs.Shaped.{HasShortName, Shaping, shaped}
-use Rattle.roam_forward.proofs.ShapedLemmas.{CanBeForwarded-shaped, code-shaped}
+use Rattle.roam_forward.proofs.ShapedLemmas.{code-shaped}
+use Rattle.roam_forward.proofs.ShapedWholeLemmas.{CanBeForwarded-shaped}
 use Rattle.roam_forward.proofs.LawLemmas.{IsPacket-forwarded_any, length-forwarded_any}
 use Rattle.roam_forward.proofs.ShortLemmas.{forwarded-short}
 use Rattle.roam_conf.specs.declared.place.Link.{Link}

@@ -12,6 +12,7 @@ pub mod ByTicketLemmas
 pub mod WalkLemmas
 pub mod LinkThenLemmas
 pub mod EntryThenLemmas
+pub mod EntryGoesLemmas
 pub mod LinkListLemmas
 pub mod LinkPlaceLemmas
 pub mod MovedLaneLemmas

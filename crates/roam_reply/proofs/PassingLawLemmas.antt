@@ -11,7 +11,7 @@ use Rattle.roam_wire.specs.declared.attribute_type.TheConstants.{MESSAGE_AUTHENT
 use Rattle.roam_wire.specs.declared.code.TheConstants.{ACCESS_ACCEPT}
 use Rattle.roam_wire.specs.declared.removed_attribute.RemovedAttribute.{RemovedAttribute}
 use Rattle.roam_forward.specs.Without.{without}
-use Rattle.roam_forward.proofs.WithoutLemmas.{without_kind-without}
+use Rattle.roam_forward.proofs.WithoutKindLemmas.{without_kind-without}
 use Rattle.roam_crypto.specs.SaltedValues.{IsAttributeAnew}
 use Rattle.roam_reply.specs.CarriedLaws.{own_attributes}
 use Rattle.roam_reply.specs.PassingLaws.{AcceptCarriesWhatPasses, AccessPasses, NothingNamed, OtherAttributesPass, OthersPassWhole, OwnNamesPass}

@@ -16,7 +16,8 @@ use Rattle.roam_crypto.specs.MessageAuthenticator.{HasAtMostOneMessageAuthentica
 use Rattle.roam_crypto.proofs.ValueLemmas.{count_of-no}
 use Rattle.roam_forward.specs.Removal.{is_kind}
 use Rattle.roam_forward.specs.Without.{passed, without}
-use Rattle.roam_forward.proofs.WithoutLemmas.{IsAttribute-without, count-kept, count-named, first-kept, length-without, nothing_or_one, text-append, without-cons, without-none}
+use Rattle.roam_forward.proofs.WithoutLemmas.{IsAttribute-without, length-without, nothing_or_one, text-append, without-cons, without-none}
+use Rattle.roam_forward.proofs.WithoutKindLemmas.{count-kept, count-named, first-kept}
 use Rattle.roam_reply.specs.Returned.{is_own, named, passing, passing_reply}
 use Rattle.roam_reply.specs.Private.Plain.{is_carried, own_piece, piece}
 

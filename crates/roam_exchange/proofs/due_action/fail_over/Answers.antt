@@ -6,7 +6,7 @@ use Rattle.roam_pending.proofs.OrderLemmas.{list-without}
 use Rattle.roam_pending.proofs.ChangeLemmas.{find-without}
 use Rattle.roam_realm.specs.Sound.{LanesTell}
 use Rattle.roam_exchange.proofs.BecameLemmas.{became-forwarded, became-gone}
-use Rattle.roam_exchange.proofs.DueActionLemmas.{IsSent, gone-freed, forwarded-freed, was-freed}
+use Rattle.roam_exchange.proofs.FailOverLemmas.{IsSent, gone-freed, forwarded-freed, was-freed}
 use Rattle.roam_exchange.proofs.RoomLemmas.{buffers-smaller}
 use Rattle.roam_exchange.proofs.SendingLemmas.{forwarded_size-request}
 use Rattle.roam_exchange.proofs.due_action.fail_over.Goals as goal

@@ -8,7 +8,7 @@ use Rattle.roam_forward.specs.Rewriting.{shown}
 use Rattle.roam_forward.specs.Shaped.{HasShortName, Shaping, shaped, shown_shaping}
 use Rattle.roam_forward.proofs.AddedLemmas.{held-padded}
 use Rattle.roam_forward.proofs.BufferLemmas.{HoldsRequest, can_be_rewritten, from_start, from_start-is, packet_of-there, written_back}
-use Rattle.roam_forward.proofs.ShapedLemmas.{CanBeForwarded-shaped, IsPacket-shaped}
+use Rattle.roam_forward.proofs.ShapedWholeLemmas.{CanBeForwarded-shaped, IsPacket-shaped}
 use Rattle.roam_forward.proofs.shaped.forward.Goals as goal
 
 -- what is shorter than the packet that is forwarded for it is a packet
