@@ -186,7 +186,8 @@ at_by r secret ip i (Some home) at is =
       | inr n ↦ absurd (let k : None ≡ Some i = rw n at is in cc)
     ]
 
-pub home_after : (old new : RealmView) (ip : Address) (home i : ℕ) → home_then old new ip home ≡ Some i → home < homes old
+pub home_after : (old new : RealmView) (ip : Address) (home i : ℕ) → home_then old new ip home ≡ Some i
+    → home < homes old
     → i < homes new
 home_after old new ip home i is below =
     elim (cases_Bool (closes_reverse old new)) as (λ _. i < homes new) [

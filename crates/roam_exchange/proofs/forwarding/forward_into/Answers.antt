@@ -76,8 +76,8 @@ returns-clause-waiting g c =
     (shown_shaping c.shaping_of-shaping.result) c.of_packet-view.result
     (record { octets = c.forward.ensures.octets }) (c.requires.room short).empty c.drawn_at.ensures
     (c.octets.ensures ∙ c.secret_of_requester.ensures.text) c.secret_of_link.ensures.text shape read in
-    let waits = IsWaiting-forwarded config q c.args.stream.position c.args.hop.ticket target c.requires.request c.requires.link
-    short packet in
+    let waits = IsWaiting-forwarded config q c.args.stream.position c.args.hop.ticket target c.requires.request
+    c.requires.link short packet in
     subst (IsWaiting config q c.args.hop.link c.args.id) (sym written) (waits (omega arith))
 
 -- and it has the forwarded packet's length
@@ -100,7 +100,8 @@ returns-clause-size g c =
     (shown_shaping c.shaping_of-shaping.result) c.of_packet-view.result
     (record { octets = c.forward.ensures.octets }) (c.requires.room short).empty c.drawn_at.ensures
     (c.octets.ensures ∙ c.secret_of_requester.ensures.text) c.secret_of_link.ensures.text shape read in
-    let foretold = length-forwarded_octets config q c.args.stream.position c.args.hop.ticket target c.requires.request packet in
+    let foretold = length-forwarded_octets config q c.args.stream.position c.args.hop.ticket target c.requires.request
+    packet in
     ap length written ∙ foretold (omega arith)
 
 -- by the range of a peer's Operator-Name

@@ -8,7 +8,7 @@ use Rattle.roam_exchange.specs.Rooms.{only_done_due}
 use Rattle.roam_core.specs.ShardRooms.{IsRealmRoom}
 use Rattle.roam_shard.specs.ShardView.{shown_opening, states_in}
 use Rattle.roam_shard.proofs.RoomLemmas.{all-gathered, one-more-gathered, room_seen}
-use Rattle.roam_shard.proofs.ShardLemmas.{length-states}
+use Rattle.roam_shard.proofs.StatesLemmas.{length-states}
 use Rattle.roam_shard.proofs.rooms.room_of_shard.Goals as goal
 
 pub overflow_cast-realm : goal.overflow_cast-realm
