@@ -1,5 +1,6 @@
 pub mod BareLemmas
 pub mod ReloadLemmas
+pub mod SameForwardLemmas
 pub mod SameBrokerLemmas
 pub mod UntouchedLemmas
 pub mod CursorLemmas
