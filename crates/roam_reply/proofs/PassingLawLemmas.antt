@@ -18,7 +18,7 @@ use Rattle.roam_reply.specs.PassingLaws.{AcceptCarriesWhatPasses, AccessPasses, 
 use Rattle.roam_admission.specs.UserName.{realm_part}
 use Rattle.roam_reply.specs.Returned.{is_own, is_same_name, name_part, named, own_of, passing, passing_reply}
 use Rattle.roam_reply.proofs.CarriedLemmas.{accept_carries}
-use Rattle.roam_reply.proofs.PassingLemmas.{all-kept, named-all, passing-none, passing_reply-none}
+use Rattle.roam_reply.proofs.PassingReplyLemmas.{all-kept, named-all, passing-none, passing_reply-none}
 use Rattle.roam_reply.proofs.PlainLemmas.{accept_is_access, from_key, to_key}
 
 own-passing : (removed : List RemovedAttribute) (reply : Packet) →
