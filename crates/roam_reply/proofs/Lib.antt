@@ -1,7 +1,7 @@
 pub mod CheckLemmas
 pub mod ReturnedLemmas
 pub mod EveryCodeLemmas
-pub mod ReturnedLemmas
+pub mod SealedReplyLemmas
 pub mod PlainLemmas
 pub mod CarriedLemmas
 pub mod NakLemmas
