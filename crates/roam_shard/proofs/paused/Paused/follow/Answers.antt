@@ -20,6 +20,10 @@ all_over-requires-clause-room g c =
     let room = c.requires.ready.room in
     omega (arith, room, length-map realms.items shown_realm, realms.ok.0)
 
+-- the peers whose tables are other ones were looked for
+pub all_over-requires-clause-changed : goal.all_over-requires-clause-changed
+all_over-requires-clause-changed g c = rw c.as_slice.ensures c.requires.ready.changed
+
 pub all_over-requires-clause-within : goal.all_over-requires-clause-within
 all_over-requires-clause-within g c =
     let old = shown c.args.old.now in
