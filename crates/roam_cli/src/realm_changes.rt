@@ -103,7 +103,7 @@ fn print_counts<W: Write>(writer: &mut W, peers: usize, servers: usize) -> io::R
     writeln!(writer, ", peers {peers}, servers {servers}")
 }
 
-/// Prints that a realm goes on, and how much of what it depends on has changed: so many peers, and what differs itself.
+/// Prints that a realm goes on, that so many of its peers have changed, and which of its keys and servers have.
 fn print_carried<W: Write>(
     writer: &mut W,
     peers: usize,

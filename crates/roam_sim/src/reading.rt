@@ -145,8 +145,11 @@ fn arrival<A: Allocator>(
         (spec.times_in fields.entry.now.now) (spec.place_in fields.entry.at.now)
         (endpoint_in fields.entry.from.now) (spec.datagram_in fields.entry.octets.now))) }
 {
-    let from = Endpoint::from_text(fields.from);
-    match (times(fields.now), place(fields.at), from) {
+    match (
+        times(fields.now),
+        place(fields.at),
+        Endpoint::from_text(fields.from),
+    ) {
         (Some((now, seconds)), Some(at), Some(from)) => match datagram(alloc, fields.octets)? {
             Some(octets) => {
                 let datagram = Datagram {

@@ -1,7 +1,7 @@
 use Rattle.std.proofs.Common.{◌≡◌, ◌∙◌, ℕ, ap, length, subst, sym, arith}
 use Rattle.roam_wire.specs.Packet.{IsPacket, Packet}
 use Rattle.roam_wire.specs.Reading.{packet_of}
-use Rattle.roam_forward.specs.Shaped.{HasShortName, shown_shaping}
+use Rattle.roam_forward.specs.Shaped.{HasShortName, Shaping, shaped, shown_shaping}
 use Rattle.roam_pending.specs.PlainEntry.{PlainRequest}
 use Rattle.roam_realm.specs.RealmConfig.{RealmConfig}
 use Rattle.roam_realm.specs.RealmState.{Target}
@@ -68,7 +68,9 @@ returns-clause-waiting g c =
     c.shaping_of-shaping.ensures.shaping
     ∙ ap (λ (k : ℕ). shaping_of config q.requester k c.args.hop.link) code in
     let short = subst HasShortName shape c.shaping_of-shaping.ensures.name in
-    let packet : IsPacket (to_go config q c.args.hop.link) = rw (shape, read) at c.forward.ensures.packet in
+    let packet : IsPacket (to_go config q c.args.hop.link) =
+    subst (λ (p : Packet). IsPacket (shaped (shaping config q c.args.hop.link) p)) read
+    (subst (λ (s : Shaping). IsPacket (shaped s c.of_packet-view.result)) shape c.forward.ensures.packet) in
     let written : c.forward.new.out.items
     ≡ forwarded_octets config q c.args.stream.position c.args.hop.ticket target =
     octets-written config q c.args.stream.position c.args.hop.ticket target c.drawn_at.result c.args.out.now.items
@@ -92,7 +94,9 @@ returns-clause-size g c =
     c.shaping_of-shaping.ensures.shaping
     ∙ ap (λ (k : ℕ). shaping_of config q.requester k c.args.hop.link) code in
     let short = subst HasShortName shape c.shaping_of-shaping.ensures.name in
-    let packet : IsPacket (to_go config q c.args.hop.link) = rw (shape, read) at c.forward.ensures.packet in
+    let packet : IsPacket (to_go config q c.args.hop.link) =
+    subst (λ (p : Packet). IsPacket (shaped (shaping config q c.args.hop.link) p)) read
+    (subst (λ (s : Shaping). IsPacket (shaped s c.of_packet-view.result)) shape c.forward.ensures.packet) in
     let written : c.forward.new.out.items
     ≡ forwarded_octets config q c.args.stream.position c.args.hop.ticket target =
     octets-written config q c.args.stream.position c.args.hop.ticket target c.drawn_at.result c.args.out.now.items

@@ -12,7 +12,7 @@ forward_into-requires-clause-room g c = λ short. (c.requires.buffers short).sen
 
 pub copied_into-forwarded-requires : goal.copied_into-forwarded-requires
 copied_into-forwarded-requires g c =
-    rw (c.as_slice.ensures, c.forward_into.ensures.size) (c.requires.buffers c.forward_into.ensures.name).kept
+    rw (c.as_slice.ensures.value, c.forward_into.ensures.size) (c.requires.buffers c.forward_into.ensures.name).kept
 
 -- the lanes tell the entry that waits on the link with the Identifier that was taken
 pub returns-clause-tells : goal.returns-clause-tells

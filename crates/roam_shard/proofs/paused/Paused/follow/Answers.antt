@@ -22,7 +22,7 @@ all_over-requires-clause-room g c =
 
 -- the peers whose tables are other ones were looked for
 pub all_over-requires-clause-changed : goal.all_over-requires-clause-changed
-all_over-requires-clause-changed g c = rw c.as_slice.ensures c.requires.ready.changed
+all_over-requires-clause-changed g c = rw c.as_slice.ensures.value c.requires.ready.changed
 
 pub all_over-requires-clause-within : goal.all_over-requires-clause-within
 all_over-requires-clause-within g c =
