@@ -14,7 +14,7 @@ use Rattle.roam_crypto.specs.MessageAuthenticator.{empty_message_authenticator, 
 use Rattle.roam_crypto.proofs.SealingLemmas.{count_of-append}
 use Rattle.roam_crypto.proofs.ValueLemmas.{count_of-no, count_of-with_value, count_of-yes}
 use Rattle.roam_forward.specs.Removal.{is_kind}
-use Rattle.roam_forward.proofs.WithoutLemmas.{count-kept, count-named}
+use Rattle.roam_forward.proofs.WithoutKindLemmas.{count-kept, count-named}
 use Rattle.roam_forward.specs.Forwarded.{Forwarding, access_attributes, added_challenge, carried_attributes, challenge_is_authenticator, forwarded, sealed, ticket_state, unsealed, with_password_anew}
 use Rattle.roam_forward.specs.Shaped.{Shaping, shaped}
 use Rattle.roam_forward.proofs.ShapedLemmas.{count-shaped}

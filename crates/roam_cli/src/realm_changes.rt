@@ -103,18 +103,15 @@ fn print_counts<W: Write>(writer: &mut W, peers: usize, servers: usize) -> io::R
     writeln!(writer, ", peers {peers}, servers {servers}")
 }
 
-/// Prints that a realm goes on, and how much of what it depends on has changed.
+/// Prints that a realm goes on, that so many of its peers have changed, and which of its keys and servers have.
 fn print_carried<W: Write>(
     writer: &mut W,
-    old: &Config,
-    new: &Config,
-    realm: u16,
+    peers: usize,
     before: &Realm,
     after: &Realm,
 ) -> io::Result<()>
     ensures { OnOk result (IsPrinted (W.contents writer.old) (W.contents writer.new)) }
 {
-    let peers = changed_peers(old, new, realm);
     let servers = changed_servers(before, after);
     print_name(writer, after.name.as_str())?;
     print_keys(writer, before, after)?;
@@ -259,7 +256,8 @@ fn print_going<W: Write>(
     let Some(before) = old.realms.get(usize::from(realm)) else {
         return Ok(());
     };
-    print_carried(writer, old, new, realm, before, after)?;
+    let peers = changed_peers(old, new, realm);
+    print_carried(writer, peers, before, after)?;
     print_lost(writer, before, after)
 }
 

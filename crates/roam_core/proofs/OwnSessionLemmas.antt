@@ -14,7 +14,7 @@ use Rattle.roam_forward.proofs.ShapedLemmas.{code-shaped}
 use Rattle.roam_forward.specs.Shaped.{shaped}
 use Rattle.roam_reply.specs.Nak.{nak}
 use Rattle.roam_reply.specs.ReplyCheck.{answers, reply_fault}
-use Rattle.roam_reply.proofs.EveryCodeLemmas.{code-returned}
+use Rattle.roam_reply.proofs.SealedReplyLemmas.{code-returned}
 use Rattle.roam_admission.specs.Admission.{PlainOut}
 use Rattle.roam_sessions.specs.CauseLaws.{IsOfOneSession}
 use Rattle.roam_sessions.specs.Causes.{cause}

@@ -19,7 +19,7 @@ use Rattle.roam_realm.specs.RealmConfig.{RealmConfig}
 use Rattle.roam_realm.specs.ServerOrder.{later_targets}
 use Rattle.roam_realm.specs.Sound.{chosen_link}
 use Rattle.roam_exchange.specs.DueActions.{IsHeld}
-use Rattle.roam_exchange.proofs.DueActionLemmas.{IsFreed, a_target, next_target, no_target, target-is}
+use Rattle.roam_exchange.proofs.FailOverLemmas.{IsFreed, a_target, next_target, no_target, target-is}
 
 pub became-gone :
     {A : Type 0} (c : RealmConfig) (now : ℕ) (es : List PlainEntry) (e : PlainEntry)

@@ -1,6 +1,7 @@
 pub mod ActionListLemmas
 pub mod BecameLemmas
 pub mod DueActionLemmas
+pub mod FailOverLemmas
 pub mod MemoryLemmas
 pub mod NakLemmas
 pub mod OutcomeLemmas

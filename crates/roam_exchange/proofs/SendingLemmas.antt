@@ -1,8 +1,7 @@
 -- The packet that is forwarded for a request of the realm, and the words that it draws.
 use Rattle.std.proofs.Common.{◌≡◌, ℕ, ◌+◌, ◌^◌, ◌<◌, ◌≤◌, List, length, [], ◌++◌, refl, sym, ap, ◌∙◌, inl, inr, eqb, arith}
-use Rattle.std.specs.Option.{ForSome}
 use Rattle.std.proofs.lemmas.Bool.{cases_Bool}
-use Rattle.roam_wire.specs.Packet.{AreOctets, Packet, IsPacket, packet_text}
+use Rattle.roam_wire.specs.Packet.{Packet, IsPacket, packet_text}
 use Rattle.roam_wire.specs.Reading.{packet_of}
 use Rattle.roam_wire.specs.declared.code.TheConstants.{ACCESS_REQUEST}
 use Rattle.roam_wire.proofs.PacketLemmas.{length-packet_text, IsPacketText-packet_text}
@@ -11,7 +10,8 @@ use Rattle.roam_random.specs.RandomWords.{request_authenticator_at, word_octets}
 use Rattle.roam_random.proofs.OctetLemmas.{authenticator-octets}
 use Rattle.roam_forward.specs.Forwarded.{CanBeForwarded, Forwarding, forwarded}
 use Rattle.roam_forward.specs.Shaped.{HasShortName, Shaping, shaped}
-use Rattle.roam_forward.proofs.ShapedLemmas.{CanBeForwarded-shaped, code-shaped}
+use Rattle.roam_forward.proofs.ShapedLemmas.{code-shaped}
+use Rattle.roam_forward.proofs.ShapedWholeLemmas.{CanBeForwarded-shaped}
 use Rattle.roam_forward.proofs.LawLemmas.{IsPacket-forwarded_any, length-forwarded_any}
 use Rattle.roam_forward.proofs.ShortLemmas.{forwarded-short}
 use Rattle.roam_conf.specs.declared.place.Link.{Link}
@@ -21,7 +21,7 @@ use Rattle.roam_realm.specs.RealmState.{Target}
 use Rattle.roam_exchange.specs.OnRequest.{drawn_at, position_after, forwarding, forwarded_octets}
 use Rattle.roam_realm.specs.Shapings.{forwarded_size, shaping}
 use Rattle.roam_realm.specs.Sound.{IsRequest, IsWaiting}
-use Rattle.roam_realm.proofs.ShapingLemmas.{IsPacket-to_go, can-be-shaped}
+use Rattle.roam_realm.proofs.ShapingLemmas.{can-be-shaped}
 
 -- the position of a stream stays in the stream
 pub position-below : (q : PlainRequest) (position : ℕ) → position < 2 ^ 68
@@ -46,24 +46,13 @@ drawn-octets : (c : RealmConfig) (q : PlainRequest) (position : ℕ)
 drawn-octets c q position access =
     rw access (access-octets c.seed c.index position)
 
--- what the code knows of the shaping of a request: its Operator-Name is short, and octets
-pub record IsSpelt (s : Shaping) : Type 0 where
-  pub name : HasShortName s
-  pub octets : ForSome s.operator_name AreOctets
-
 -- the request as it is shaped, which can be forwarded
-abbrev to_go : RealmConfig → PlainRequest → Link → Packet
+abbrev pub to_go : RealmConfig → PlainRequest → Link → Packet
 to_go c q l = shaped (shaping c q l) (packet_of q.octets)
 
 can-go : (c : RealmConfig) (q : PlainRequest) (l : Link) → IsRequest c q → CanBeForwarded (to_go c q l)
 can-go c q l h =
     CanBeForwarded-shaped (shaping c q l) (packet_of q.octets)
-    (can-be-shaped c q.requester (packet_of q.octets) l h.packet.packet h.can_go)
-
-is-packet : (c : RealmConfig) (q : PlainRequest) (l : Link) → IsRequest c q → IsSpelt (shaping c q l) →
-    IsPacket (to_go c q l)
-is-packet c q l h spelt =
-    IsPacket-to_go (shaping c q l) (packet_of q.octets) spelt.name spelt.octets h.packet.packet
     (can-be-shaped c q.requester (packet_of q.octets) l h.packet.packet h.can_go)
 
 -- what is forwarded has at most 304 octets more than the request
@@ -84,35 +73,35 @@ drawn-shaped c q l position access =
 
 -- it is a packet, and has the length that was foretold
 forwarded-packet : (c : RealmConfig) (q : PlainRequest) (position ticket : ℕ) (target : Target) → IsRequest c q →
-    IsSpelt (shaping c q target.link) → target.id < 256 →
+    IsPacket (to_go c q target.link) → target.id < 256 →
     IsPacket (forwarded (forwarding c q position ticket target) (to_go c q target.link))
-forwarded-packet c q position ticket target h spelt id =
+forwarded-packet c q position ticket target h packet id =
     IsPacket-forwarded_any (forwarding c q position ticket target) (to_go c q target.link) id
-    (is-packet c q target.link h spelt) (can-go c q target.link h) (drawn-shaped c q target.link position)
+    packet (can-go c q target.link h) (drawn-shaped c q target.link position)
 
 pub length-forwarded_octets : (c : RealmConfig) (q : PlainRequest) (position ticket : ℕ)
-    (target : Target) → IsRequest c q → IsSpelt (shaping c q target.link) → target.id < 256 →
+    (target : Target) → IsRequest c q → IsPacket (to_go c q target.link) → target.id < 256 →
     length (forwarded_octets c q position ticket target) ≡ forwarded_size c q target.link
-length-forwarded_octets c q position ticket target h spelt id =
+length-forwarded_octets c q position ticket target h packet id =
     let f : Forwarding = forwarding c q position ticket target in
     let request : Packet = to_go c q target.link in
-    let size = length-packet_text (forwarded f request) (forwarded-packet c q position ticket target h spelt id) in
-    let same = length-forwarded_any f request (is-packet c q target.link h spelt) (can-go c q target.link h) in
+    let size = length-packet_text (forwarded f request) (forwarded-packet c q position ticket target h packet id) in
+    let same = length-forwarded_any f request packet (can-go c q target.link h) in
     omega (arith, size, same)
 
 -- a request that was forwarded waits with its packet
 pub IsWaiting-forwarded : (c : RealmConfig) (q : PlainRequest) (position ticket : ℕ) (target : Target) →
-    IsRequest c q → IsLink c target.link → IsSpelt (shaping c q target.link) → target.id < 256 →
-    IsWaiting c q target.link target.id (forwarded_octets c q position ticket target)
-IsWaiting-forwarded c q position ticket target h link spelt id =
-    let size = length-forwarded_octets c q position ticket target h spelt id in
-    let grown = forwarded_size-request c q target.link h spelt.name in
+    IsRequest c q → IsLink c target.link → HasShortName (shaping c q target.link) → IsPacket (to_go c q target.link) →
+    target.id < 256 → IsWaiting c q target.link target.id (forwarded_octets c q position ticket target)
+IsWaiting-forwarded c q position ticket target h link name packet id =
+    let size = length-forwarded_octets c q position ticket target h packet id in
+    let grown = forwarded_size-request c q target.link h name in
     record {
       link = link;
       id = id;
       packet = IsPacketText-packet_text
           (forwarded (forwarding c q position ticket target) (to_go c q target.link))
-          (forwarded-packet c q position ticket target h spelt id);
+          (forwarded-packet c q position ticket target h packet id);
       size = omega (arith, size, grown);
     }
 

@@ -1,6 +1,11 @@
 -- The memory that a rule takes before anything changes, and what is made of it (ours).
 use Rattle.std.specs.Prelude.{◌≡◌, ℕ, ◌+◌, ◌<◌, ◌≤◌, List, [], vec_len, vec_capacity}
 use Rattle.std.specs.declared.vec.Vec.{Vec}
+use Rattle.roam_forward.specs.Shaped.{HasShortName}
+use Rattle.roam_conf.specs.declared.place.Link.{Link}
+use Rattle.roam_pending.specs.PlainEntry.{PlainRequest}
+use Rattle.roam_realm.specs.RealmConfig.{RealmConfig}
+use Rattle.roam_realm.specs.Shapings.{forwarded_size, shaping}
 use Rattle.roam_admission.specs.Admission.{PlainOut}
 use Rattle.roam_admission.specs.declared.datagram.Out.{Out}
 use Rattle.roam_exchange.specs.declared.happening.DueHappening.{DueHappening}
@@ -20,6 +25,11 @@ pub record HasRoom {A : Type 0} (size : ℕ) (b : Vec ℕ A) : Type 0 where
 pub record HasBuffers {A : Type 0} (size : ℕ) (b : Buffers A) : Type 0 where
   pub sent : HasRoom size b.sent
   pub kept : HasRoom size b.kept
+
+-- empty buffers, each with room for what is forwarded for a request to a link, where the Operator-Name that is added to
+-- it fits in an attribute (RFC 2865, section 5)
+abbrev pub HasForwardBuffers : {A : Type 0} → RealmConfig → PlainRequest → Link → Buffers A → Type 0
+HasForwardBuffers c q l b = HasShortName (shaping c q l) → HasBuffers (forwarded_size c q l) b
 
 -- these packets, with places for so many more
 pub record IsOuts {A : Type 0} (spare : ℕ) (packets : List PlainOut) (outs : Vec (Out A) A) : Type 0 where

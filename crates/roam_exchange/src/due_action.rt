@@ -21,9 +21,7 @@ ghost use Rattle.roam_exchange.specs.Dues.{became_by, became_of};
 ghost use Rattle.roam_exchange.specs.Memory.{HasBuffers};
 
 use crate::buffers::{Buffers, copied_into};
-use crate::forwarding::{
-    Hop, RequestRef, gains_few, packet_to_link, packet_to_requester, send_new,
-};
+use crate::forwarding::{Hop, RequestRef, packet_to_link, packet_to_requester, send_new};
 use roam_admission::{Out, is_reverse_request};
 use roam_conf::Link;
 use roam_pending::{Done, Entry, Standing, Waiting};
@@ -165,45 +163,53 @@ fn give_up<A: Allocator>(
     }
 }
 
+/// A request that a link left unanswered, and how it waited there.
+#[derive(Drop)]
+struct Unanswered<'e, A: Allocator> {
+    pending: &'e Entry<A>,
+    link: Link,
+    id: u8,
+    signs: u64,
+}
+
 /// Gives back the Identifier of an entry that isn't sent to its link again, counts that silence there, where it is
 /// one, and forwards the request to the target that is then chosen, if there is one.
 fn fail_over<A: Allocator + Copy>(
     settings: &RealmSettings<'_>,
     numbers: &mut RealmNumbers<A>,
     now: u64,
-    entry: &Entry<A>,
-    link: Link,
-    id: u8,
-    signs: u64,
+    silent: &Unanswered<'_, A>,
     buffers: Buffers<A>,
 ) -> DueAction<A>
     requires moment { now ≤ 2 ^ 62 }
     requires count { length numbers.old.lanes.items ≡ link_count settings.now }
     requires lanes { AreOwnLanes settings.now (marks_of numbers.old.lanes.items) }
-    requires entry { IsEntry settings.now numbers.old.ticket (shown entry.now) }
-    requires link { IsLink settings.now link }
-    requires waits { waits_at link id (shown entry.now) ≡ true }
-    requires buffers { HasBuffers (length entry.now.request.octets + 304) buffers }
-    ensures action { (es : List PlainEntry) → IsHeld settings.now es (shown entry.now) numbers.old
-        → IsDueAction settings.now now es (shown entry.now) numbers.new result
+    requires entry { IsEntry settings.now numbers.old.ticket (shown silent.now.pending.now) }
+    requires link { IsLink settings.now silent.now.link }
+    requires waits { waits_at silent.now.link silent.now.id (shown silent.now.pending.now) ≡ true }
+    requires buffers { HasBuffers (length silent.now.pending.now.request.octets + 304) buffers }
+    ensures action { (es : List PlainEntry) → IsHeld settings.now es (shown silent.now.pending.now) numbers.old
+        → IsDueAction settings.now now es (shown silent.now.pending.now) numbers.new result
         (fail_over settings.now now
-        (given_up_at settings.now now link signs (state_of es numbers.old) (shown entry.now))
-        (shown entry.now)
+        (given_up_at settings.now now silent.now.link silent.now.signs (state_of es numbers.old)
+        (shown silent.now.pending.now))
+        (shown silent.now.pending.now)
         (chosen_target settings.now now
-        (after_silence settings.now now numbers.old.rests.items link signs)
-        (cursors_of numbers.old.lanes.items) (without entry.now.ticket es)
-        (later_targets settings.now (shown entry.now).request link))) }
-    ensures became { (es : List PlainEntry) → IsHeld settings.now es (shown entry.now) numbers.old
-        → became_by result ≡ at_last (shown entry.now).request
+        (after_silence settings.now now numbers.old.rests.items silent.now.link silent.now.signs)
+        (cursors_of numbers.old.lanes.items) (without silent.now.pending.now.ticket es)
+        (later_targets settings.now (shown silent.now.pending.now).request silent.now.link))) }
+    ensures became { (es : List PlainEntry) → IsHeld settings.now es (shown silent.now.pending.now) numbers.old
+        → became_by result ≡ at_last (shown silent.now.pending.now).request
         (chosen_target settings.now now
-        (after_silence settings.now now numbers.old.rests.items link signs)
-        (cursors_of numbers.old.lanes.items) (without entry.now.ticket es)
-        (later_targets settings.now (shown entry.now).request link)) }
+        (after_silence settings.now now numbers.old.rests.items silent.now.link silent.now.signs)
+        (cursors_of numbers.old.lanes.items) (without silent.now.pending.now.ticket es)
+        (later_targets settings.now (shown silent.now.pending.now).request silent.now.link)) }
     ensures no_link { KeepsNoLink result }
 {
-    numbers.give_back(settings, link, id);
-    numbers.count_silence(settings, now, link, signs);
-    let Some(target) = later_target(settings, numbers, now, entry, link) else {
+    let entry = silent.pending;
+    numbers.give_back(settings, silent.link, silent.id);
+    numbers.count_silence(settings, now, silent.link, silent.signs);
+    let Some(target) = later_target(settings, numbers, now, entry, silent.link) else {
         return give_up(settings, now, entry, buffers);
     };
     let request = RequestRef {
@@ -217,7 +223,6 @@ fn fail_over<A: Allocator + Copy>(
         ticket: entry.ticket,
         link: target,
     };
-    gains_few(settings, request, target);
     numbers.put_off(settings, now, target);
     let (sent, waiting) = send_new(settings, numbers, now, hop, buffers);
     DueAction::Forwarded(sent, waiting)
@@ -252,16 +257,13 @@ pub fn act_on_due<A: Allocator + Copy>(
             if waiting.sends_left > 0 {
                 DueAction::SentAgain(packet_again(settings, waiting, buffers))
             } else {
-                fail_over(
-                    settings,
-                    numbers,
-                    now,
-                    entry,
-                    waiting.link,
-                    waiting.id,
-                    waiting.signs,
-                    buffers,
-                )
+                let silent = Unanswered {
+                    pending: entry,
+                    link: waiting.link,
+                    id: waiting.id,
+                    signs: waiting.signs,
+                };
+                fail_over(settings, numbers, now, &silent, buffers)
             }
         }
     }

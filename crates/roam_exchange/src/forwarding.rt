@@ -4,6 +4,7 @@ ghost use Rattle.std.specs.Prelude.{◌≡◌, ◌<◌, ◌≤◌, ◌==◌, ◌
 ghost use Rattle.std.specs.Prelude.{List, Some, None, true, length, slice_set};
 ghost use Rattle.roam_wire.specs.Reading.{IsPacketText, packet_of};
 ghost use Rattle.roam_wire.specs.declared.code.TheConstants.{ACCESS_REQUEST};
+ghost use Rattle.roam_forward.specs.Shaped.{HasShortName};
 ghost use Rattle.roam_pending.specs.PlainEntry.{PlainEntry};
 ghost use Rattle.roam_pending.specs.EntryList.{IsEntryList, find_ticket, put};
 ghost use Rattle.roam_pending.specs.Shown.{shown_standing};
@@ -12,11 +13,11 @@ ghost use Rattle.roam_admission.specs.Shown.{shown_out};
 ghost use Rattle.roam_realm.specs.RealmConfig.{IsLink, link_place, link_count};
 ghost use Rattle.roam_realm.specs.RealmState.{next_toward};
 ghost use Rattle.roam_realm.specs.Rests.{signs_of};
-ghost use Rattle.roam_realm.specs.Shapings.{forwarded_size};
+ghost use Rattle.roam_realm.specs.Shapings.{forwarded_size, shaping};
 ghost use Rattle.roam_exchange.specs.OnRequest.{packet_to_link, packet_to_requester, drawn_at, position_after};
 ghost use Rattle.roam_exchange.specs.OnRequest.{forwarded_octets};
 ghost use Rattle.roam_exchange.specs.OnRequest.{forwarded_entry};
-ghost use Rattle.roam_exchange.specs.Memory.{HasBuffers, HasRoom};
+ghost use Rattle.roam_exchange.specs.Memory.{HasForwardBuffers, HasRoom};
 ghost use Rattle.roam_exchange.specs.Shown.{shown_request};
 ghost use Rattle.roam_realm.specs.Sound.{IsRequest, LanesTell, IsWaiting, lane_of, cursors_of, has_free};
 ghost use Rattle.roam_realm.specs.Sound.{marks_of};
@@ -49,6 +50,13 @@ pub struct Hop<'a> {
     pub request: RequestRef<'a>,
     pub ticket: u64,
     pub link: Link,
+}
+
+/// The random words of a realm: those of its stream from a position on.
+#[derive(Drop)]
+struct WordStream<'w> {
+    position: u128,
+    words: &'w mut KeptWords,
 }
 
 /// Makes a packet of the realm toward a link.
@@ -122,35 +130,28 @@ fn position_after(request: RequestRef<'_>, position: u128) -> u128
     }
 }
 
-/// Shows that what is forwarded for a request has at most 304 octets more than it. It is a law: nothing runs.
-pub(crate) fn gains_few(settings: &RealmSettings<'_>, request: RequestRef<'_>, link: Link)
-    requires request { IsRequest settings.now (shown_request request) }
-    requires link { IsLink settings.now link }
-    ensures { forwarded_size settings.now (shown_request request.entry) link ≤ length request.entry.octets.now + 304 }
-{
-    settings.goes_with_short_name(request.requester, link);
-}
-
 /// Writes the forwarded packet of a request, as it is shaped, into an empty buffer that has room for it, with
-/// what is drawn from this position on.
+/// what is drawn for it.
 fn forward_into<A: Allocator>(
     settings: &RealmSettings<'_>,
     hop: Hop<'_>,
-    position: u128,
-    words: &mut KeptWords,
+    stream: WordStream<'_>,
     id: u8,
     out: &mut Vec<u8, A>,
 )
     requires request { IsRequest settings.now (shown_request hop.request) }
     requires link { IsLink settings.now hop.link }
-    requires room { HasRoom (forwarded_size settings.now (shown_request hop.request) hop.link) out.old }
+    requires room { HasShortName (shaping settings.now (shown_request hop.request) hop.link)
+        → HasRoom (forwarded_size settings.now (shown_request hop.request) hop.link) out.old }
     ensures octets { out.new.items
-        ≡ forwarded_octets settings.now (shown_request hop.entry.request) position hop.entry.ticket
+        ≡ forwarded_octets settings.now (shown_request hop.entry.request) stream.entry.position hop.entry.ticket
         (record { link = hop.entry.link; id = id }) }
     ensures waiting { IsWaiting settings.now (shown_request hop.entry.request) hop.entry.link id out.new.items }
     ensures size { length out.new.items
         ≡ forwarded_size settings.now (shown_request hop.entry.request) hop.entry.link }
+    ensures name { HasShortName (shaping settings.now (shown_request hop.entry.request) hop.entry.link) }
 {
+    let WordStream { position, words } = stream;
     let view = View::of_packet(hop.request.octets);
     let shaping = settings.shaping_of(hop.request.requester, view.code(), hop.link);
     let forwarding = Forwarding {
@@ -179,7 +180,7 @@ pub fn send_new<A: Allocator + Copy>(
     requires count { length numbers.old.lanes.items ≡ link_count settings.now }
     requires free { has_free (lane_of settings.now numbers.old.lanes.items hop.link) ≡ true }
     requires made { (lane_of settings.now numbers.old.lanes.items hop.link).made ≡ true }
-    requires buffers { HasBuffers (forwarded_size settings.now (shown_request hop.request) hop.link) buffers }
+    requires buffers { HasForwardBuffers settings.now (shown_request hop.request) hop.link buffers }
     ensures next { (es : List PlainEntry) → IsEntryList es
         → LanesTell settings.now es numbers.old.lanes.items
         → next_toward settings.now (cursors_of numbers.old.lanes.items) es hop.entry.link ≡ Some result.1.id }
@@ -219,7 +220,11 @@ pub fn send_new<A: Allocator + Copy>(
     };
     let Buffers { mut sent, kept } = buffers;
     let position = numbers.stream_position;
-    forward_into(settings, hop, position, &mut numbers.words, id, &mut sent);
+    let stream = WordStream {
+        position,
+        words: &mut numbers.words,
+    };
+    forward_into(settings, hop, stream, id, &mut sent);
     numbers.stream_position = position_after(hop.request, position);
     let forwarded = copied_into(kept, sent.as_slice());
     let waiting = Waiting {

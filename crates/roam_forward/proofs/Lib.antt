@@ -1,6 +1,7 @@
 pub mod RemovalLemmas
 pub mod LeftLemmas
 pub mod WithoutLemmas
+pub mod WithoutKindLemmas
 pub mod WithoutLawLemmas
 pub mod WholeLemmas
 pub mod ForwardedLemmas
@@ -8,8 +9,10 @@ pub mod BufferLemmas
 pub mod AccessLemmas
 pub mod LawLemmas
 pub mod ArrangedLemmas
+pub mod ArrangedPacketLemmas
 pub mod CarriedLemmas
 pub mod ShapedLemmas
+pub mod ShapedWholeLemmas
 pub mod AddedLemmas
 pub mod ShapedLawLemmas
 pub mod ShorterLemmas

@@ -5,7 +5,7 @@ use Rattle.roam_forward.specs.declared.passing.Passing.TheVariants.{Nothing, Who
 use Rattle.roam_forward.specs.Without.{passed, vendor_of, with_left, without}
 use Rattle.roam_forward.specs.WithoutLaws.{MalformedGo, NamedGo, OthersStay, PartsPass, PassesInOrder, ShortStay, VendorsGo, VendorsStay}
 use Rattle.roam_forward.proofs.LeftLemmas.{passed-as}
-use Rattle.roam_forward.proofs.WithoutLemmas.{only-kept, only-named}
+use Rattle.roam_forward.proofs.WithoutKindLemmas.{only-kept, only-named}
 
 pub passes_in_order : PassesInOrder
 unfolding without

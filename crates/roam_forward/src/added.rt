@@ -1,7 +1,7 @@
 //! The attributes that are added to a request before it is forwarded.
 
 ghost use Rattle.std.specs.Prelude.{◌≡◌, ◌+◌, ◌≤◌, ◌++◌, length, vec_len, vec_capacity};
-ghost use Rattle.std.specs.Prelude.{option_map, [], if◌then◌else◌};
+ghost use Rattle.std.specs.Prelude.{Some, option_map, [], if◌then◌else◌};
 ghost use Rattle.roam_wire.specs.Attributes.{count_of};
 ghost use Rattle.roam_wire.specs.Packet.{AreOctets, attribute_text, attributes_text};
 ghost use Rattle.roam_forward.specs.Removal.{removed_by};
@@ -74,6 +74,23 @@ fn takes_name(request: &View<'_>, removal: &Removal<'_>) -> bool
     takes_operator_name(request.code()) && count_without(request, removal, OPERATOR_NAME) == 0
 }
 
+/// Returns the Operator-Name of this value, where none passes of a request to which one is added.
+fn name_to_add<'a>(request: &View<'_>, removal: &Removal<'_>, name: &'a [u8]) -> Option<&'a [u8]>
+    requires { length name.now ≤ 253 }
+    ensures name { name_of (option_map (λ name. name.now) result)
+        ≡ (if takes_operator_name request.now.code
+        then added_operator_name (Some name.now)
+        (without (removed_by removal.now) request.now.attributes) else []) }
+    ensures short { ForSome (option_map (λ name. name.now) result) (λ name. length name ≤ 253) }
+    ensures octets { AreOctets name.now }
+{
+    if takes_name(request, removal) {
+        Some(name)
+    } else {
+        None
+    }
+}
+
 /// Returns the Operator-Name that is added, where the peer has one and none passes.
 fn operator_name_to_add<'a>(request: &View<'_>, shaping: &Shaping<'a>) -> Option<&'a [u8]>
     requires { HasShortName (shown_shaping shaping.now) }
@@ -82,14 +99,11 @@ fn operator_name_to_add<'a>(request: &View<'_>, shaping: &Shaping<'a>) -> Option
         then added_operator_name (shown_shaping shaping.now).operator_name
         (without (removed_by shaping.now.removal) request.now.attributes) else []) }
     ensures short { ForSome (option_map (λ name. name.now) result) (λ name. length name ≤ 253) }
+    ensures octets { ForSome (shown_shaping shaping.now).operator_name AreOctets }
 {
-    if shaping.operator_name.is_none() {
-        return None;
-    }
-    if takes_name(request, &shaping.removal) {
-        shaping.operator_name
-    } else {
-        None
+    match shaping.operator_name {
+        Some(name) => name_to_add(request, &shaping.removal, name),
+        None => None,
     }
 }
 
@@ -109,6 +123,7 @@ pub(crate) fn added_to<'a>(request: &View<'_>, shaping: &Shaping<'a>) -> Added<'
     requires { HasShortName (shown_shaping shaping.now) }
     ensures all { shown_added result ≡ all_added (shown_shaping shaping.now) request.now }
     ensures name { ForSome (option_map (λ name. name.now) result.operator_name) (λ name. length name ≤ 253) }
+    ensures octets { ForSome (shown_shaping shaping.now).operator_name AreOctets }
 {
     let challenge = challenge_to_add(request, &shaping.removal);
     let operator_name = operator_name_to_add(request, shaping);
@@ -117,20 +132,6 @@ pub(crate) fn added_to<'a>(request: &View<'_>, shaping: &Shaping<'a>) -> Added<'
         challenge,
         operator_name,
         cui,
-    }
-}
-
-/// Shows that a name's octets are octets. Does nothing when it runs.
-fn are_octets(name: &[u8])
-    ensures { AreOctets name.now }
-{}
-
-/// Shows that the octets of an Operator-Name are octets, if there is one.
-pub(crate) fn are_octets_of(name: Option<&[u8]>)
-    ensures { ForSome (option_map (λ name. name.now) name.entry) AreOctets }
-{
-    if let Some(name) = name {
-        are_octets(name);
     }
 }
 

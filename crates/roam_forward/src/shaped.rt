@@ -3,7 +3,7 @@
 ghost use Rattle.std.specs.Prelude.{◌≡◌, ◌==◌, ◌&&◌, ◌+◌, ◌≤◌, ◌++◌, length, option_map, vec_len, vec_capacity};
 ghost use Rattle.roam_wire.specs.Attributes.{count_of};
 ghost use Rattle.std.specs.Option.{ForSome};
-ghost use Rattle.roam_wire.specs.Packet.{AreOctets, IsPacket, packet_length, packet_text};
+ghost use Rattle.roam_wire.specs.Packet.{IsPacket, packet_length, packet_text};
 ghost use Rattle.roam_wire.specs.Secret.{IsSecret};
 ghost use Rattle.roam_wire.specs.declared.attribute_type.TheConstants.{MESSAGE_AUTHENTICATOR};
 ghost use Rattle.roam_wire.specs.declared.code.TheConstants.{ACCESS_REQUEST};
@@ -14,7 +14,7 @@ ghost use Rattle.roam_forward.specs.Rewriting.{shown};
 ghost use Rattle.roam_forward.specs.Private.Added.{shown_added};
 ghost use Rattle.roam_forward.specs.Shaped.{CanBeShaped, HasShortName, all_added, shaped, shown_shaping};
 
-use crate::added::{Added, added_len, added_to, append_added, are_octets_of};
+use crate::added::{Added, added_len, added_to, append_added};
 use crate::forwarding::rewrite;
 use crate::length::{ADDED_SIZE, TICKET_SIZE};
 use crate::shaping::Shaping;
@@ -37,9 +37,7 @@ fn len_with(request: &View<'_>, shaping: &Shaping<'_>, added: &Added<'_>) -> usi
     ensures size { result ≡ packet_length (shaped (shown_shaping shaping.now) request.now) }
     ensures few { result ≤ 4372 }
     ensures packet { IsPacket request.now }
-    ensures octets { ForSome (shown_shaping shaping.now).operator_name AreOctets }
 {
-    are_octets_of(shaping.operator_name);
     20 + without_len(request, &shaping.removal) + added_len(added)
 }
 
@@ -121,6 +119,7 @@ pub fn forward<A: Allocator>(
     requires to_secret { IsSecret forwarding.now.to_secret.now }
     ensures octets { out.new.items ≡ out.old.items ++ packet_text (forwarded (shown forwarding.now)
         (shaped (shown_shaping shaping.now) request.now)) }
+    ensures packet { IsPacket (shaped (shown_shaping shaping.now) request.now) }
     ensures capacity { vec_capacity out.new ≡ vec_capacity out.old }
 {
     let start = out.len();

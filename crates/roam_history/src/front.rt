@@ -9,8 +9,6 @@ use crate::head::Head;
 use crate::opened::Opened;
 use crate::rule::{Add, Close, HistoryEntry, LastStep, LetGo, Nothing, OneHistory};
 use logbook::{Offer, Plain, Seen};
-use roam_exchange::Answer;
-use roam_shard::Traced;
 use std::alloc::Allocator;
 use std::marker::{Model, PhantomData};
 
@@ -170,25 +168,24 @@ impl<N: Opened> Front<N> {
         both.learn(&whole.seen);
     }
 
-    /// Adds the last step of a trace, with this answer, to all that was seen here, where no more was ever added: what
+    /// Adds the last step of a trace, with its answer, to all that was seen here, where no more was ever added: what
     /// is seen then. None where more was: nothing is added then. Takes no memory.
     pub fn with_step<A: Allocator>(
         &self,
         head: &Head<N>,
-        traced: &Traced<'_, A>,
-        answer: &Answer<A>,
+        last: &LastStep<'_, '_, A>,
     ) -> Option<Front<N>>
         requires shard { head.now.shard ≡ self.now.shard }
         requires room { length self.now.entries < 2 ^ 64 - 1 }
         requires is_open { IsOpen self.now.entries }
-        requires step { (s : PlainStep) × (last_of traced.now.events (shown_answer answer.now) ≡ step_entry s) }
+        requires step { (s : PlainStep)
+            × (last_of last.now.traced.now.events (shown_answer last.now.answer.now) ≡ step_entry s) }
         ensures { IfSome result (λ f. f ≡ record {
           shard = self.now.shard;
-          entries = self.now.entries ++ last_of traced.now.events (shown_answer answer.now) ∷ [];
+          entries = self.now.entries ++ last_of last.now.traced.now.events (shown_answer last.now.answer.now) ∷ [];
         }) }
     {
-        let last = LastStep { traced, answer };
-        let seen = added::<N, LastStep<'_, '_, A>, Add>(head, &self.seen, self.entries, &last)?;
+        let seen = added::<N, LastStep<'_, '_, A>, Add>(head, &self.seen, self.entries, last)?;
         Some(Front {
             shard: self.shard,
             entries: self.entries + 1,

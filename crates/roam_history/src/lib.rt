@@ -68,5 +68,6 @@ pub use receipt::Receipt;
 pub use report::Report;
 pub use roam_exchange::{Became, DueHappening, Happening, LeftConversation, Waited};
 pub use roam_realm::{Gauges, SERVER_LINKS};
+pub use rule::LastStep;
 pub use seat::{Seat, no_tallies, no_times, split};
 pub use tally::Tally;

@@ -12,7 +12,7 @@ pub(crate) type HistoryEntry = Option<Option<AnsweredStep>>;
 
 /// The last step of a trace, with its answer, which isn't stored.
 #[derive(Clone, Copy)]
-pub(crate) struct LastStep<'a, 'c, A: Allocator> {
+pub struct LastStep<'a, 'c, A: Allocator> {
     pub traced: &'a Traced<'c, A>,
     pub answer: &'a Answer<A>,
 }

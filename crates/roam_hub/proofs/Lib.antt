@@ -1,5 +1,6 @@
 pub mod HubLemmas
 pub mod KeptLemmas
+pub mod RecordedLemmas
 pub mod ChangeLemmas
 pub mod PauseLemmas
 pub mod BoundLemmas

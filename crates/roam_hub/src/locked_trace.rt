@@ -22,7 +22,7 @@ use crate::call::Call;
 use crate::writing::{closed, recorded, without_steps};
 use roam_admission::Job;
 use roam_exchange::Turned;
-use roam_history::{Answered, Front, Head, HubFault, Opened, Refused, Seat};
+use roam_history::{Answered, Front, Head, HubFault, LastStep, Opened, Refused, Seat};
 use roam_shard::{Shard, Step, Traced};
 use std::alloc::Allocator;
 use std::marker::Model;
@@ -149,7 +149,11 @@ impl<'c, A: Allocator + Copy, N: Opened> LockedTrace<'c, A, N> {
                 let Turned { answer, happening } = turned;
                 let octets = self.traced.octets();
                 let (front, traced) = (&mut self.front, &self.traced);
-                let number = recorded(call.rt, seat, &self.head, front, traced, &answer);
+                let last = LastStep {
+                    traced,
+                    answer: &answer,
+                };
+                let number = recorded(call.rt, seat, &self.head, front, &last);
                 Ok(Answered {
                     shard,
                     number,
@@ -202,7 +206,11 @@ impl<'c, A: Allocator + Copy, N: Opened> LockedTrace<'c, A, N> {
                 let Turned { answer, happening } = turned;
                 let octets = self.traced.octets();
                 let (front, traced) = (&mut self.front, &self.traced);
-                let number = recorded(call.rt, seat, &self.head, front, traced, &answer);
+                let last = LastStep {
+                    traced,
+                    answer: &answer,
+                };
+                let number = recorded(call.rt, seat, &self.head, front, &last);
                 Ok(Answered {
                     shard,
                     number,

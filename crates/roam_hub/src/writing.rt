@@ -8,31 +8,29 @@ ghost use Rattle.roam_shard.specs.Steps.{PlainStep, shown_answer};
 ghost use Rattle.roam_history.specs.Entries.{IsOpen, closed_entry, last_of, let_go_entry, step_entry, steps_in};
 ghost use Rattle.roam_history.specs.Seats.{after_call};
 
-use roam_exchange::Answer;
-use roam_history::{Front, Head, Opened, Seat};
-use roam_shard::Traced;
+use roam_history::{Front, Head, LastStep, Opened, Seat};
 use std::alloc::Allocator;
 use std::sync::Wait;
 
-/// Returns the front with the last step of a trace more, which was answered so.
+/// Returns the front with the last step of a trace more.
 fn with_step<R: Wait, A: Allocator, N: Opened>(
     rt: &R,
     head: &Head<N>,
     front: &Front<N>,
-    traced: &Traced<'_, A>,
-    answer: &Answer<A>,
+    last: &LastStep<'_, '_, A>,
 ) -> Front<N>
     requires shard { head.now.shard ≡ front.now.shard }
     requires room { length front.now.entries < 2 ^ 64 - 1 }
     requires is_open { IsOpen front.now.entries }
-    requires step { (s : PlainStep) × (last_of traced.now.events (shown_answer answer.now) ≡ step_entry s) }
+    requires step { (s : PlainStep)
+        × (last_of last.now.traced.now.events (shown_answer last.now.answer.now) ≡ step_entry s) }
     ensures { result ≡ record {
       shard = front.now.shard;
-      entries = front.now.entries ++ last_of traced.now.events (shown_answer answer.now) ∷ [];
+      entries = front.now.entries ++ last_of last.now.traced.now.events (shown_answer last.now.answer.now) ∷ [];
     } }
 {
     for _ in rt.forever() {
-        if let Some(more) = front.with_step(head, traced, answer) {
+        if let Some(more) = front.with_step(head, last) {
             return more;
         }
     }
@@ -79,31 +77,31 @@ pub(crate) fn closed<R: Wait, N: Opened>(rt: &R, head: &Head<N>, front: &Front<N
     unreachable!()
 }
 
-/// Records the last step of a trace, which was answered so, as the last of the whole history, which the seat has then
+/// Records the last step of a trace, with its answer, as the last of the whole history, which the seat has then
 /// seen. The seat counts the call. Returns the number under which it does.
 pub(crate) fn recorded<R: Wait, A: Allocator + Copy, N: Opened>(
     rt: &R,
     seat: &mut Seat<A, N>,
     head: &Head<N>,
     front: &mut Front<N>,
-    traced: &Traced<'_, A>,
-    answer: &Answer<A>,
+    last: &LastStep<'_, '_, A>,
 ) -> u64
     requires head { head.now.shard ≡ front.old.shard }
     requires shard { front.old.shard < N.opening.config.shards }
     requires room { length front.old.entries < 2 ^ 64 - 1 }
     requires is_open { IsOpen front.old.entries }
-    requires step { (s : PlainStep) × (last_of traced.now.events (shown_answer answer.now) ≡ step_entry s) }
+    requires step { (s : PlainStep)
+        × (last_of last.now.traced.now.events (shown_answer last.now.answer.now) ≡ step_entry s) }
     ensures front { front.new ≡ record {
       shard = front.old.shard;
-      entries = front.old.entries ++ last_of traced.now.events (shown_answer answer.now) ∷ [];
+      entries = front.old.entries ++ last_of last.now.traced.now.events (shown_answer last.now.answer.now) ∷ [];
     } }
     ensures seat { seat.new
         ≡ after_call seat.old front.old.shard result front.new.entries }
     ensures number { result ≡ length (steps_in front.old.entries) }
 {
     let number = front.len();
-    let more = with_step(rt, head, front, traced, answer);
+    let more = with_step(rt, head, front, last);
     seat.note(number, more.again());
     *front = more;
     number

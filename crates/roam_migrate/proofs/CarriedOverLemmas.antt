@@ -16,7 +16,8 @@ use Rattle.roam_migrate.specs.Private.MoreLanes.{AreMoreLanes}
 use Rattle.roam_migrate.specs.Private.Moving.{AreMoved, staying}
 use Rattle.roam_migrate.specs.Reload.{Carries, carried, cursors_then, entries_then, entry_then, rests_then, sessions_then, without_done}
 use Rattle.roam_migrate.specs.declared.lanes.FreshLanes.{FreshLanes}
-use Rattle.roam_migrate.proofs.EntryThenLemmas.{entries_stay, entry_parts}
+use Rattle.roam_migrate.proofs.EntryThenLemmas.{entry_parts}
+use Rattle.roam_migrate.proofs.EntryGoesLemmas.{entries_stay}
 use Rattle.roam_migrate.proofs.ByTicketLemmas.{order_kept}
 use Rattle.roam_migrate.proofs.FewLemmas.{each_left, tells_left}
 use Rattle.roam_migrate.proofs.MovedLaneLemmas.{cursors_moved, own_moved, tells_moved}

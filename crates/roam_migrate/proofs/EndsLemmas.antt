@@ -14,7 +14,7 @@ use Rattle.roam_realm.specs.RealmConfig.{RealmConfig}
 use Rattle.roam_realm.specs.Shapings.{shaping_from}
 use Rattle.roam_realm.specs.Sound.{IsOfPeer}
 use Rattle.roam_migrate.specs.Reload.{entry_of, entry_then, fits, outgrows, request_from, request_then, requester_then, standing_then, way_then}
-use Rattle.roam_migrate.proofs.EntryThenLemmas.{does_fit, has_size, peer_there}
+use Rattle.roam_migrate.proofs.EntryGoesLemmas.{does_fit, has_size, peer_there}
 
 -- ---- its sender
 

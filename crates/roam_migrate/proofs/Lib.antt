@@ -1,5 +1,6 @@
 pub mod BareLemmas
 pub mod ReloadLemmas
+pub mod SameForwardLemmas
 pub mod SameBrokerLemmas
 pub mod UntouchedLemmas
 pub mod CursorLemmas
@@ -12,6 +13,7 @@ pub mod ByTicketLemmas
 pub mod WalkLemmas
 pub mod LinkThenLemmas
 pub mod EntryThenLemmas
+pub mod EntryGoesLemmas
 pub mod LinkListLemmas
 pub mod LinkPlaceLemmas
 pub mod MovedLaneLemmas

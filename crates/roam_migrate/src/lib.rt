@@ -23,5 +23,6 @@ mod sessions;
 pub use lanes::FreshLanes;
 pub use losses::{Loss, all_of, losses_of};
 pub use reload::{
-    carried_takes_no_more, carry_over, changed_peers, reserve_carry, untouched_realms_go_on,
+    SettingsChange, carried_takes_no_more, carry_over, changed_peers, reserve_carry,
+    untouched_realms_go_on,
 };

@@ -179,58 +179,63 @@ fn stands_as_it_is<A: Allocator>(
     }
 }
 
+/// The settings of a realm before a change and after it, and the peers whose tables are other ones then.
+#[derive(Clone, Copy)]
+pub struct SettingsChange<'s, 'o, 'n> {
+    pub before: &'s RealmSettings<'o>,
+    pub after: &'s RealmSettings<'n>,
+    pub changed: &'s [u16],
+}
+
 /// Carries a realm over that a change touches: entries, lanes, links that are marked dead, and sessions stay or go.
 fn carry_touched<A: Allocator + Copy, E: Entries<A>>(
-    old: &RealmSettings<'_>,
-    new: &RealmSettings<'_>,
-    changed: &[u16],
+    change: &SettingsChange<'_, '_, '_>,
     entries: &mut E,
     numbers: &mut RealmNumbers<A>,
     fresh: Option<FreshLanes<A>>,
 )
-    requires index { new.now.index ≡ old.now.index }
-    requires servers { HaveDistinctServers old.now new.now }
-    requires changed { AreChanged old.now.peers new.now.peers changed.now }
-    requires sound { IsSound old.now (E.entries_of entries.old old.now.index) numbers.old }
-    requires ready { IsReadyToCarry old.now new.now numbers.old fresh }
-    ensures state { state_of (E.entries_of entries.new old.now.index) numbers.new
-        ≡ carried old.now new.now (state_of (E.entries_of entries.old old.now.index) numbers.old) }
-    ensures sound { IsSound new.now (E.entries_of entries.new old.now.index) numbers.new }
-    ensures others { OthersStay old.now.index (E.entries_of entries.old) (E.entries_of entries.new) }
+    requires index { change.now.after.now.index ≡ change.now.before.now.index }
+    requires servers { HaveDistinctServers change.now.before.now change.now.after.now }
+    requires changed { AreChanged change.now.before.now.peers change.now.after.now.peers change.now.changed.now }
+    requires sound { IsSound change.now.before.now (E.entries_of entries.old change.now.before.now.index) numbers.old }
+    requires ready { IsReadyToCarry change.now.before.now change.now.after.now numbers.old fresh }
+    ensures state { state_of (E.entries_of entries.new change.now.before.now.index) numbers.new
+        ≡ carried change.now.before.now change.now.after.now
+        (state_of (E.entries_of entries.old change.now.before.now.index) numbers.old) }
+    ensures sound { IsSound change.now.after.now (E.entries_of entries.new change.now.before.now.index) numbers.new }
+    ensures others { OthersStay change.now.before.now.index (E.entries_of entries.old) (E.entries_of entries.new) }
     ensures kept { E.keeps entries.new ≡ E.keeps entries.old }
 {
-    carry_entries(old, new, entries, numbers);
-    carry_lanes(old, new, changed, numbers, fresh);
-    carry_sessions(old, new, changed, numbers);
+    carry_entries(change.before, change.after, entries, numbers);
+    carry_lanes(change.before, change.after, change.changed, numbers, fresh);
+    carry_sessions(change.before, change.after, change.changed, numbers);
 }
 
 /// Carries a realm over to other settings, with the memory that was taken: entries, lanes, links that are marked
-/// dead, and sessions stay or go, as `carried` says. `changed` are the peers whose tables are other ones. Takes no
-/// memory.
+/// dead, and sessions stay or go, as `carried` says. Takes no memory.
 pub fn carry_over<A: Allocator + Copy, E: Entries<A>>(
-    old: &RealmSettings<'_>,
-    new: &RealmSettings<'_>,
-    changed: &[u16],
+    change: &SettingsChange<'_, '_, '_>,
     entries: &mut E,
     numbers: &mut RealmNumbers<A>,
     fresh: Option<FreshLanes<A>>,
 )
-    requires index { new.now.index ≡ old.now.index }
-    requires seed { new.now.seed ≡ old.now.seed }
-    requires servers { HaveDistinctServers old.now new.now }
-    requires changed { AreChanged old.now.peers new.now.peers changed.now }
-    requires sound { IsSound old.now (E.entries_of entries.old old.now.index) numbers.old }
-    requires ready { IsReadyToCarry old.now new.now numbers.old fresh }
-    ensures state { state_of (E.entries_of entries.new old.now.index) numbers.new
-        ≡ carried old.now new.now (state_of (E.entries_of entries.old old.now.index) numbers.old) }
-    ensures sound { IsSound new.now (E.entries_of entries.new old.now.index) numbers.new }
-    ensures others { OthersStay old.now.index (E.entries_of entries.old) (E.entries_of entries.new) }
+    requires index { change.now.after.now.index ≡ change.now.before.now.index }
+    requires seed { change.now.after.now.seed ≡ change.now.before.now.seed }
+    requires servers { HaveDistinctServers change.now.before.now change.now.after.now }
+    requires changed { AreChanged change.now.before.now.peers change.now.after.now.peers change.now.changed.now }
+    requires sound { IsSound change.now.before.now (E.entries_of entries.old change.now.before.now.index) numbers.old }
+    requires ready { IsReadyToCarry change.now.before.now change.now.after.now numbers.old fresh }
+    ensures state { state_of (E.entries_of entries.new change.now.before.now.index) numbers.new
+        ≡ carried change.now.before.now change.now.after.now
+        (state_of (E.entries_of entries.old change.now.before.now.index) numbers.old) }
+    ensures sound { IsSound change.now.after.now (E.entries_of entries.new change.now.before.now.index) numbers.new }
+    ensures others { OthersStay change.now.before.now.index (E.entries_of entries.old) (E.entries_of entries.new) }
     ensures kept { E.keeps entries.new ≡ E.keeps entries.old }
 {
-    if stands_as_it_is(old, new, changed, &fresh) {
-        add_lanes(new, numbers);
+    if stands_as_it_is(change.before, change.after, change.changed, &fresh) {
+        add_lanes(change.after, numbers);
     } else {
-        carry_touched(old, new, changed, entries, numbers, fresh);
+        carry_touched(change, entries, numbers, fresh);
     }
 }
 

@@ -4,7 +4,6 @@ pub mod LookingLemmas
 pub mod OrderLemmas
 pub mod SavingLemmas
 pub mod ShapingLemmas
-pub mod ShortNameLemmas
 pub mod SoundLemmas
 pub mod TakenLaneLemmas
 pub mod TargetLemmas

@@ -1,24 +1,17 @@
 -- A request of the realm can be forwarded as it is shaped.
-use Rattle.std.proofs.Common.{◌≡◌, ◌≢◌, ℕ, ◌+◌, ◌≤◌, true, List, [], ◌++◌, refl, inl, inr, arith}
-use Rattle.std.specs.Prelude.{◌==◌, ◌&&◌, if◌then◌else◌}
-use Rattle.std.specs.Option.{ForSome}
+use Rattle.std.proofs.Common.{◌≡◌, ◌≢◌, ℕ, ◌+◌, true, List, [], ◌++◌, refl, inl, inr, arith}
+use Rattle.std.specs.Prelude.{◌==◌, if◌then◌else◌}
 use Rattle.std.proofs.lemmas.Bool.{cases_Bool}
 use Rattle.std.proofs.lemmas.Bool.Decides.{nat_tests}
-use Rattle.roam_wire.specs.Attributes.{count_of}
 use Rattle.roam_wire.specs.Codes.{is_reverse_request}
-use Rattle.roam_wire.specs.Packet.{AreOctets, Packet, IsPacket, packet_length}
-use Rattle.roam_wire.specs.declared.attribute_type.TheConstants.{MESSAGE_AUTHENTICATOR}
+use Rattle.roam_wire.specs.Packet.{Packet, IsPacket}
 use Rattle.roam_wire.specs.declared.code.TheConstants.{ACCESS_REQUEST, COA_REQUEST}
 use Rattle.roam_wire.specs.declared.removed_attribute.RemovedAttribute.{RemovedAttribute}
 use Rattle.roam_conf.specs.declared.place.Link.{Link}
 use Rattle.roam_conf.specs.declared.place.Link.TheVariants as link
 use Rattle.roam_forward.specs.Removal.{removed_by, without_sessions}
-use Rattle.roam_forward.specs.Without.{without}
 use Rattle.roam_forward.specs.declared.removal.Removal.{Removal}
-use Rattle.roam_forward.specs.Forwarded.{forwarded_length}
-use Rattle.roam_forward.specs.Shaped.{CanBeShaped, HasShortName, Shaping, no_shaping, shaped}
-use Rattle.roam_forward.proofs.AddedLemmas.{growth-other, growth-sealed}
-use Rattle.roam_forward.proofs.ShapedLemmas.{IsPacket-shaped}
+use Rattle.roam_forward.specs.Shaped.{CanBeShaped, no_shaping}
 use Rattle.roam_forward.proofs.ShorterLemmas.{CanBeShaped-shorter}
 use Rattle.roam_pending.specs.declared.key.Requester.{Requester}
 use Rattle.roam_pending.specs.declared.key.Requester.TheVariants as requester
@@ -31,20 +24,6 @@ pub removed-is : (r : Removal) (list : List RemovedAttribute) → r.peer.now ++ 
     removed_by r ≡ (if r.keeps_session then without_sessions list else list)
 unfolding removed_by
 removed-is r list is = λ i. if r.keeps_session then without_sessions (is i) else is i
-
--- it is a packet
-below-forwarded : (s : Shaping) (q : Packet) → packet_length (shaped s q) ≤ forwarded_length (shaped s q)
-below-forwarded s q =
-    elim (cases_Bool (q.code == ACCESS_REQUEST
-    && (count_of MESSAGE_AUTHENTICATOR (without s.removed q.attributes) == 0))) [
-      | inl sealed ↦ let grown = growth-sealed s q sealed in omega (arith, grown)
-      | inr other ↦ let grown = growth-other s q other in omega (arith, grown)
-    ]
-
-pub IsPacket-to_go : (s : Shaping) (q : Packet) → HasShortName s → ForSome s.operator_name AreOctets → IsPacket q →
-    CanBeShaped s q → IsPacket (shaped s q)
-IsPacket-to_go s q name octets packet can =
-    IsPacket-shaped s q name octets packet (omega (arith, below-forwarded s q, can.size))
 
 -- ---- what can go can be shaped
 

@@ -24,7 +24,7 @@ use std::marker::Model;
 /// The parts of a configuration that the rules of one realm read: the seed, its index and entry, and all peers.
 #[derive(Drop)]
 pub struct RealmSettings<'c> {
-    pub(crate) config: &'c Config,
+    config: &'c Config,
     realm: u16,
 }
 

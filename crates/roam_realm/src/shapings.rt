@@ -1,42 +1,17 @@
 //! The changes that a realm makes to requests that it forwards and replies that it returns, as its configuration says.
 
-ghost use Rattle.std.specs.Prelude.{◌≡◌, ◌<◌, ℕ, Some, length, option_map, slice_get, if◌then◌else◌};
-ghost use Rattle.std.specs.Option.{ForSome};
-ghost use Rattle.roam_wire.specs.Packet.{AreOctets};
-ghost use Rattle.roam_conf.specs.Config.{RealmView};
-ghost use Rattle.roam_conf.specs.Shown.{shown};
+ghost use Rattle.std.specs.Prelude.{◌≡◌, ◌<◌, length, if◌then◌else◌};
 ghost use Rattle.roam_forward.specs.Removal.{removed_by, without_sessions};
 ghost use Rattle.roam_forward.specs.Shaped.{HasShortName, no_shaping, shown_shaping};
-ghost use Rattle.roam_admission.specs.Shapings.{shaping_between};
 ghost use Rattle.roam_realm.specs.RealmConfig.{IsLink, IsRequester};
 ghost use Rattle.roam_realm.specs.Shapings.{removed_for, reply_removed, shaping_from, shaping_of, shaping_to};
 
 use crate::realm_settings::RealmSettings;
 use roam_admission::request_shaping;
-use roam_conf::{Config, Link};
+use roam_conf::Link;
 use roam_forward::{Removal, Shaping, nothing_removed};
 use roam_pending::Requester;
 use roam_wire::code::COA_REQUEST;
-
-/// Shows that a name's octets are octets. It is a law: nothing runs.
-fn are_octets(name: &[u8])
-    ensures { AreOctets name.now }
-{}
-
-/// Shows that a name's octets are octets, if there is one.
-fn are_octets_of(name: Option<&[u8]>)
-    ensures { ForSome (option_map (λ name. name.now) name.entry) AreOctets }
-{
-    if let Some(name) = name {
-        are_octets(name);
-    }
-}
-
-/// Shows that the name with which a peer's requests go out is short. It is a law: nothing runs.
-fn peers_have_short_names(config: &Config)
-    ensures { (peer : ℕ) → (realm : RealmView)
-        → HasShortName (shaping_between (slice_get (shown config.now).peers peer) (Some realm)) }
-{}
 
 /// Makes the shaping that takes these attributes out, and adds nothing.
 fn only_without(removal: Removal<'_>) -> Shaping<'_>
@@ -104,20 +79,10 @@ impl<'c> RealmSettings<'c> {
         requires link { IsLink self.now link }
         ensures shaping { shown_shaping result ≡ shaping_of self.now requester code link }
         ensures name { HasShortName (shown_shaping result) }
-        ensures octets { ForSome (shown_shaping result).operator_name AreOctets }
     {
-        let shaping = match requester {
+        match requester {
             Requester::Peer(peer) => self.shaping_from(peer),
             Requester::Home(_) => self.shaping_to(code, link),
-        };
-        are_octets_of(shaping.operator_name);
-        shaping
-    }
-
-    /// Shows that the name with which a request goes out is short, whatever its code. It is a law: nothing runs.
-    pub fn goes_with_short_name(&self, requester: Requester, link: Link)
-        ensures { (code : ℕ) → HasShortName (shaping_of self.now requester code link) }
-    {
-        peers_have_short_names(self.config);
+        }
     }
 }

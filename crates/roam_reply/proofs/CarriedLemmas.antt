@@ -18,7 +18,8 @@ use Rattle.roam_wire.specs.Codes.{is_access_reply}
 use Rattle.roam_reply.specs.Returned.{Returning, proxy_states, with_salted_anew, returned_attributes, returned}
 use Rattle.roam_reply.specs.CarriedLaws.{own_attributes}
 use Rattle.roam_reply.proofs.ReturnedLemmas.{count_of-only, other_kind, carried-others}
-use Rattle.roam_reply.proofs.EveryCodeLemmas.{carried-access, count_of-rest, access_rest, seal_of, seal_apart}
+use Rattle.roam_reply.proofs.EveryCodeLemmas.{carried-access, count_of-rest, access_rest, seal_apart}
+use Rattle.roam_reply.proofs.SealedReplyLemmas.{seal_of}
 use Rattle.roam_reply.proofs.PlainLemmas.{from_key, to_key, accept_is_access}
 
 -- ---- an Access reply

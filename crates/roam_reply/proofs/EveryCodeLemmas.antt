@@ -4,25 +4,20 @@ use Rattle.std.specs.Prelude.{◌==◌, not, if◌then◌else◌}
 use Rattle.std.specs.List.{AllByRecursion}
 use Rattle.std.proofs.lemmas.Bool.{cases_Bool}
 use Rattle.std.proofs.lemmas.List.Sums.{sum_by-cons}
-use Rattle.std.proofs.lemmas.List.Elements.{filter-append}
-use Rattle.roam_wire.specs.Packet.{AreOctets, Attribute, IsAttribute, Packet, IsPacket, packet_length}
+use Rattle.roam_wire.specs.Packet.{AreOctets, Attribute, IsAttribute, Packet, IsPacket}
 use Rattle.roam_wire.specs.Attributes.{has_kind, count_of, only_kind, without_kind}
 use Rattle.roam_wire.specs.declared.attribute_type.TheConstants.{PROXY_STATE}
 use Rattle.roam_wire.specs.declared.code.TheConstants.{ACCESS_ACCEPT}
 use Rattle.roam_wire.specs.declared.attribute_type.TheConstants.{MESSAGE_AUTHENTICATOR}
-use Rattle.roam_crypto.specs.Authenticators.{response_authenticator, IsSignedReply}
-use Rattle.roam_crypto.specs.MessageAuthenticator.{HasOneMessageAuthenticator, HasAtMostOneMessageAuthenticator, IsWellSealed, attribute_with_value, empty_message_authenticator, message_authenticator, StandsFirst}
-use Rattle.roam_crypto.proofs.ValueLemmas.{count_of-yes, packet_length-with_value, HasOne-with_value, StandsFirst-with_value}
-use Rattle.roam_crypto.proofs.SealLemmas.{IsWellSealed-sealed, IsWellSealed-with_authenticator}
-use Rattle.roam_crypto.proofs.DigestLemmas.{IsPacket-signed_reply, length-message_authenticator}
+use Rattle.roam_crypto.specs.MessageAuthenticator.{HasOneMessageAuthenticator, HasAtMostOneMessageAuthenticator, attribute_with_value, empty_message_authenticator}
+use Rattle.roam_crypto.proofs.ValueLemmas.{count_of-yes}
 use Rattle.roam_crypto.proofs.SealingLemmas.{count_of-append}
 use Rattle.roam_wire.proofs.OctetLemmas.{AreOctets-zeros}
 use Rattle.roam_crypto.specs.Hiding.{Key}
 use Rattle.roam_crypto.proofs.VendorLemmas.{salted_hidden_anew_is, length_attribute_anew}
 use Rattle.roam_crypto.proofs.OctetLemmas.{AreOctets-attribute_anew}
 use Rattle.roam_wire.specs.Codes.{is_access_reply}
-use Rattle.roam_reply.specs.Returned.{Returning, proxy_states, with_salted_anew, returned_attributes, unsealed_return, sealed_return, returned, returned_length}
-use Rattle.roam_crypto.proofs.SignedLemmas.{IsPacket-sealed}
+use Rattle.roam_reply.specs.Returned.{Returning, proxy_states, with_salted_anew, returned_attributes, unsealed_return, returned_length}
 use Rattle.roam_reply.proofs.ReturnedLemmas.{other_kind, count_of-without_itself, count_of-only, short_kept, short_joined, carried-others, AtMostOne-others}
 
 -- ---- salted strings hidden anew
@@ -141,7 +136,7 @@ pub seal_apart : MESSAGE_AUTHENTICATOR ≢ PROXY_STATE
 seal_apart e = absurd (omega (arith, e))
 
 -- an Access reply's has just one Message-Authenticator
-HasOne-access : (r : Returning) (reply request : Packet) → is_access_reply reply.code ≡ true →
+pub HasOne-access : (r : Returning) (reply request : Packet) → is_access_reply reply.code ≡ true →
     HasOneMessageAuthenticator (unsealed_return r reply request)
 HasOne-access r reply request access =
     let rest = access_rest r reply request in
@@ -212,7 +207,7 @@ not_chosen : (seal : Bool) (value : List ℕ) (a : Attribute) → seal ≡ false
 not_chosen true value a other = absurd (cc)
 not_chosen false value a other = refl
 
-only-with_value : (value : List ℕ) (all : List Attribute) →
+pub only-with_value : (value : List ℕ) (all : List Attribute) →
     only_kind PROXY_STATE (map (attribute_with_value value) all) ≡ only_kind PROXY_STATE all
 only-with_value value [] = refl
 only-with_value value (a ∷ all) =
@@ -225,7 +220,7 @@ only-with_value value (a ∷ all) =
       | inr further ↦ rw further (only-with_value value all)
     ]
 
-only-carried : (r : Returning) (reply request : Packet) →
+pub only-carried : (r : Returning) (reply request : Packet) →
     only_kind PROXY_STATE (returned_attributes r reply request) ≡ []
 only-carried r reply request =
     let own = without_kind PROXY_STATE reply.attributes in
@@ -241,89 +236,3 @@ only-carried r reply request =
           ap (only_kind PROXY_STATE) (carried-access r reply request access) ∙ behind
       | inr other ↦ ap (only_kind PROXY_STATE) (carried-others r reply request other) ∙ none
     ]
-
--- ---- the returned packet
-
-abbrev pub seal_of : Returning → Packet → Packet → List ℕ
-seal_of r reply request = message_authenticator r.client_secret request.authenticator (unsealed_return r reply request)
-
-length-seal_of : (r : Returning) (reply request : Packet) → length (seal_of r reply request) ≡ 16
-length-seal_of r reply request =
-    length-message_authenticator r.client_secret request.authenticator (unsealed_return r reply request)
-
-pub IsPacket-returned : (r : Returning) (reply request : Packet) → IsPacket reply → IsPacket request →
-    HasAtMostOneMessageAuthenticator reply → returned_length r reply request ≤ 4096 →
-    IsPacket (returned r reply request)
-unfolding returned
-IsPacket-returned r reply request a b h short =
-    let packet : IsPacket (sealed_return r reply request) =
-    IsPacket-sealed r.client_secret request.authenticator (unsealed_return r reply request)
-    (AtMostOne-unsealed r reply request h) (IsPacket-unsealed r reply request a b short) in
-    IsPacket-signed_reply r.client_secret request.authenticator (sealed_return r reply request) packet
-
-pub packet_length-returned : (r : Returning) (reply request : Packet) → HasAtMostOneMessageAuthenticator reply →
-    packet_length (returned r reply request) ≡ returned_length r reply request
-unfolding returned returned_length
-packet_length-returned r reply request h =
-    packet_length-with_value (seal_of r reply request) (unsealed_return r reply request)
-    (length-seal_of r reply request) (AtMostOne-unsealed r reply request h)
-
-pub IsSignedReply-returned : (r : Returning) (reply request : Packet) →
-    IsSignedReply r.client_secret request.authenticator (returned r reply request)
-unfolding returned response_authenticator
-IsSignedReply-returned r reply request = refl
-
-pub IsWellSealed-returned : (r : Returning) (reply request : Packet) → HasAtMostOneMessageAuthenticator reply →
-    IsWellSealed r.client_secret (request.authenticator ∷ []) (returned r reply request)
-unfolding returned
-IsWellSealed-returned r reply request h =
-    IsWellSealed-with_authenticator r.client_secret (request.authenticator ∷ [])
-    (response_authenticator r.client_secret request.authenticator (sealed_return r reply request))
-    (sealed_return r reply request)
-    (IsWellSealed-sealed r.client_secret request.authenticator (unsealed_return r reply request)
-    (AtMostOne-unsealed r reply request h))
-
-pub HasOne-returned : (r : Returning) (reply request : Packet) → is_access_reply reply.code ≡ true →
-    HasOneMessageAuthenticator (returned r reply request)
-unfolding returned
-HasOne-returned r reply request access =
-    let one = HasOne-with_value (seal_of r reply request) (unsealed_return r reply request)
-    (length-seal_of r reply request) (HasOne-access r reply request access) in
-    record { one = one.one; size = one.size }
-
--- the Message-Authenticator of an Access reply stands first
-pub first-returned : (r : Returning) (reply request : Packet) → is_access_reply reply.code ≡ true →
-    StandsFirst (returned r reply request)
-unfolding returned
-first-returned r reply request access =
-    let rest = access_rest r reply request in
-    let p : List Attribute → Packet =
-    λ all. record {
-      code = reply.code;
-      id = request.id;
-      authenticator = request.authenticator;
-      attributes =
-          all ++ proxy_states request;
-    } in
-    let h : StandsFirst (p (empty_message_authenticator ∷ rest)) = (_, rest ++ proxy_states request, refl) in
-    let before : StandsFirst (unsealed_return r reply request) =
-    subst (λ (all : List Attribute). StandsFirst (p all)) (sym (carried-access r reply request access)) h in
-    let after = StandsFirst-with_value (seal_of r reply request) (unsealed_return r reply request) before in
-    (after.0, after.1, after.2)
-
-pub code-returned : (r : Returning) (reply request : Packet) → (returned r reply request).code ≡ reply.code
-unfolding returned
-code-returned r reply request = refl
-
-pub id-returned : (r : Returning) (reply request : Packet) → (returned r reply request).id ≡ request.id
-unfolding returned
-id-returned r reply request = refl
-
-pub proxy_states-returned : (r : Returning) (reply request : Packet) →
-    proxy_states (returned r reply request) ≡ proxy_states request
-unfolding returned
-proxy_states-returned r reply request =
-    only-with_value (seal_of r reply request) (returned_attributes r reply request ++ proxy_states request)
-    ∙ filter-append (has_kind PROXY_STATE) (returned_attributes r reply request) (proxy_states request)
-    ∙ ap (λ (all : List Attribute). all ++ only_kind PROXY_STATE (proxy_states request)) (only-carried r reply request)
-    ∙ only-only PROXY_STATE request.attributes

@@ -1,8 +1,10 @@
 pub mod CheckLemmas
 pub mod ReturnedLemmas
 pub mod EveryCodeLemmas
+pub mod SealedReplyLemmas
 pub mod PlainLemmas
 pub mod CarriedLemmas
 pub mod NakLemmas
 pub mod PassingLemmas
+pub mod PassingReplyLemmas
 pub mod PassingLawLemmas

@@ -11,14 +11,14 @@ use Rattle.roam_wire.specs.declared.attribute_type.TheConstants.{MESSAGE_AUTHENT
 use Rattle.roam_wire.specs.declared.code.TheConstants.{ACCESS_ACCEPT}
 use Rattle.roam_wire.specs.declared.removed_attribute.RemovedAttribute.{RemovedAttribute}
 use Rattle.roam_forward.specs.Without.{without}
-use Rattle.roam_forward.proofs.WithoutLemmas.{without_kind-without}
+use Rattle.roam_forward.proofs.WithoutKindLemmas.{without_kind-without}
 use Rattle.roam_crypto.specs.SaltedValues.{IsAttributeAnew}
 use Rattle.roam_reply.specs.CarriedLaws.{own_attributes}
 use Rattle.roam_reply.specs.PassingLaws.{AcceptCarriesWhatPasses, AccessPasses, NothingNamed, OtherAttributesPass, OthersPassWhole, OwnNamesPass}
 use Rattle.roam_admission.specs.UserName.{realm_part}
 use Rattle.roam_reply.specs.Returned.{is_own, is_same_name, name_part, named, own_of, passing, passing_reply}
 use Rattle.roam_reply.proofs.CarriedLemmas.{accept_carries}
-use Rattle.roam_reply.proofs.PassingLemmas.{all-kept, named-all, passing-none, passing_reply-none}
+use Rattle.roam_reply.proofs.PassingReplyLemmas.{all-kept, named-all, passing-none, passing_reply-none}
 use Rattle.roam_reply.proofs.PlainLemmas.{accept_is_access, from_key, to_key}
 
 own-passing : (removed : List RemovedAttribute) (reply : Packet) →

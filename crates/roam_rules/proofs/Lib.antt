@@ -13,7 +13,9 @@ pub mod LostTickLemmas
 pub mod RealmLemmas
 pub mod ReplyLemmas
 pub mod RequestLemmas
+pub mod RestTellsLemmas
 pub mod SharingLemmas
+pub mod SilenceLawLemmas
 pub mod SilenceLemmas
 pub mod SumLemmas
 pub mod TickLemmas

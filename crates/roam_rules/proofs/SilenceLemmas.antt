@@ -1,10 +1,9 @@
 -- A link that stands back kept silent, and a choice among links that stand back is as good as one among all.
-use Rattle.std.proofs.Common.{◌≡◌, ◌⊎◌, ◌≤◌, ◌+◌, ◌==◌, ◌&&◌, ◌^◌, ℕ, zero, suc, Bool, true, false, List, [], ◌∷◌, ◌++◌, Option, Some, None, is_some, refl, ap, sym, subst, ◌∙◌, arith, inl, inr, get_or, set, ltb, not}
-use Rattle.std.specs.Prelude.{nat_lt, nat_le, option_map, if◌then◌else◌}
-use Rattle.std.specs.List.{filter, find}
-use Rattle.std.specs.Option.{option_map_or, option_or}
+use Rattle.std.proofs.Common.{◌≡◌, ◌⊎◌, ◌≤◌, ◌+◌, ◌==◌, ◌&&◌, ◌^◌, ℕ, Bool, true, false, List, [], ◌∷◌, Option, Some, None, refl, ap, sym, subst, ◌∙◌, arith, inl, inr, get_or, set, ltb, not}
+use Rattle.std.specs.Prelude.{nat_lt, if◌then◌else◌}
+use Rattle.std.specs.List.{find}
 use Rattle.std.proofs.lemmas.Bool.{cases_Bool}
-use Rattle.std.proofs.lemmas.Bool.Decides.{Decides-eqb, nat_tests}
+use Rattle.std.proofs.lemmas.Bool.Decides.{Decides-eqb}
 use Rattle.roam_wire.specs.Packet.{Packet}
 use Rattle.roam_wire.specs.Reading.{packet_of}
 use Rattle.roam_wire.specs.declared.refusal.Refusal.{Refusal}
@@ -16,118 +15,22 @@ use Rattle.roam_pending.specs.DueOrder.{due_list}
 use Rattle.roam_pending.specs.PlainEntry.{PlainStanding, PlainEntry, waiting, done, same_link, stands_at, waits_at}
 use Rattle.roam_pending.specs.EntryList.{find_link, find_ticket}
 use Rattle.roam_realm.specs.RealmConfig.{RealmConfig, end_place, link_secret, seal_required}
-use Rattle.roam_realm.specs.RealmState.{RealmState, Target, first_target, next_toward, ready_links, this_or}
-use Rattle.roam_realm.specs.Rests.{after_choice, after_sign, after_silence, awake, once_chosen, once_heard, once_silent, one_more, rest_of, signs_of, stands_back, with_rest}
+use Rattle.roam_realm.specs.RealmState.{RealmState}
+use Rattle.roam_realm.specs.Rests.{after_choice, after_sign, after_silence, awake, once_chosen, once_heard, once_silent, rest_of, signs_of, with_rest}
 use Rattle.roam_exchange.specs.Turn.{Turn, latest_moment, hears, refuses, state_after}
 use Rattle.roam_exchange.specs.OnReply.{reply_turn, once_heard_from, shows_life, on_reply, passing_to, reply_fault, returning, to_entry, to_standing}
 use Rattle.roam_exchange.specs.OnTick.{Progress, as_turn, due_each, due_entry, due_one, due_standing, given_up_at}
 use Rattle.roam_exchange.specs.OneRealm.{RealmEvent, one_realm_run, reply_came, request_came, tick_came}
-use Rattle.roam_exchange.specs.RestLaws.{IsUp}
-use Rattle.roam_rules.specs.Silence.{ChoiceIsNeverWorse, EndsHaveOwnPlaces, RestsOnlyWhenSilent, ends_at, ends_there, given_up_by, given_up_in, given_up_over, shares_end, is_sign, once_came, signs_in, signs_over}
+use Rattle.roam_rules.specs.Silence.{EndsHaveOwnPlaces, ends_at, ends_there, given_up_by, given_up_in, given_up_over, shares_end, is_sign, once_came, signs_in, signs_over}
 use Rattle.roam_realm.specs.declared.rest.Rest.{Rest}
 use Rattle.roam_realm.proofs.LinkLaneLemmas.{ends-apart}
 use Rattle.roam_realm.proofs.SoundLemmas.{same_link-equal}
 use Rattle.roam_exchange.proofs.RestLemmas.{either, fail_over-keeps, reply-keeps, request-keeps}
+use Rattle.roam_rules.proofs.RestTellsLemmas.{Tells, At, more, heard-tells, chosen-tells, silent-tells, read_set, heard_there, same-read, SilentSince}
 
 pub ends-have_own_places : EndsHaveOwnPlaces
 ends-have_own_places c l other x y is =
     ends-apart c l other x y ((Decides-eqb (end_place c other) (end_place c l)).0 is)
-
--- ---- what a link's rest tells of its silence
-
--- so many requests were given up, or more; and where it has a moment, `rest_after` were
-record Tells (c : RealmConfig) (n : ℕ) (r : Rest) : Type 0 where
-  counted : r.given_up ≤ n
-  had : is_some r.until ≡ true → c.realm.rest_after ≤ r.given_up
-
--- of a link among the rests
-abbrev At : RealmConfig → Link → ℕ → List Rest → Type 0
-At c l n rests = Tells c n (rest_of c rests l)
-
-more : (c : RealmConfig) (n m : ℕ) (r : Rest) → n ≤ m → Tells c n r → Tells c m r
-more c n m r least h =
-    let counted = h.counted in
-    record { counted = omega (arith, counted, least); had = h.had }
-
-awake-tells : (c : RealmConfig) (n : ℕ) → Tells c n awake
-awake-tells c n = record { counted = omega arith; had = λ is. absurd (cc is) }
-
-heard-tells : (c : RealmConfig) (n : ℕ) (r : Rest) → Tells c n (once_heard r)
-heard-tells c n r = record { counted = omega arith; had = λ is. absurd (cc is) }
-
-up-tells : (c : RealmConfig) (r : Rest) → IsUp r → Tells c 0 r
-up-tells c r up =
-    let none = up.given_up in
-    record { counted = omega (arith, none); had = λ is. absurd (cc (sym (ap is_some up.until) ∙ is)) }
-
-is_some-mapped : (f : ℕ → ℕ) (o : Option ℕ) → is_some (option_map f o) ≡ is_some o
-is_some-mapped f None = refl
-is_some-mapped f (Some x) = refl
-
-chosen-tells : (c : RealmConfig) (n now : ℕ) (r : Rest) → Tells c n r → Tells c n (once_chosen c now r)
-chosen-tells c n now r h = record {
-  counted = h.counted;
-  had = λ is. h.had (sym (is_some-mapped (λ until. now + c.realm.rest) r.until) ∙ is);
-}
-
--- one more is at most one more, and none less
-more-by : (count : ℕ) → (count ≤ one_more count) × (one_more count ≤ count + 1)
-more-by count =
-    elim (cases_Bool (nat_lt count 256)) [
-      | inl below ↦ rw below (omega arith, omega arith)
-      | inr above ↦ rw above (omega arith, omega arith)
-    ]
-
-moment-by : (b : Bool) (until : ℕ) (o : Option ℕ) → is_some (if b then Some until else o) ≡ true
-    → (b ≡ true) ⊎ (is_some o ≡ true)
-moment-by true until o is = inl refl
-moment-by false until o is = inr is
-
-silent-tells : (c : RealmConfig) (n now : ℕ) (r : Rest) → Tells c n r
-    → Tells c (n + 1) (once_silent c now r)
-silent-tells c n now r h =
-    let counted = h.counted in
-    let one = more-by r.given_up in
-    let least = one.0 in
-    let most = one.1 in
-    record {
-      counted = omega (arith, counted, most);
-      had = λ is.
-          elim (moment-by (nat_le c.realm.rest_after (one_more r.given_up)) (now + c.realm.rest) r.until is) [
-            | inl enough ↦ grind (arith, nat_tests, enough)
-            | inr already ↦ (let before = h.had already in omega (arith, before, least))
-          ];
-    }
-
--- ---- a rest that is written, read at a link
-
-read_set : (P : Rest → Type 0) (rests : List Rest) (i j : ℕ) (r : Rest)
-    → P (get_or rests j awake) → (i ≡ j → P r) → P (get_or (set rests i r) j awake)
-read_set P [] i j r old new = old
-read_set P (x ∷ xs) zero zero r old new = new refl
-read_set P (x ∷ xs) zero (suc j) r old new = old
-read_set P (x ∷ xs) (suc i) zero r old new = old
-read_set P (x ∷ xs) (suc i) (suc j) r old new =
-    read_set P xs i j r old (λ is. new (ap (λ (n : ℕ). suc n) is))
-
-heard_there : (c : RealmConfig) (rests : List Rest) (i : ℕ) (r : Rest) → Tells c 0 r
-    → Tells c 0 (get_or (set rests i r) i awake)
-heard_there c [] i r h = awake-tells c 0
-heard_there c (x ∷ xs) zero r h = h
-heard_there c (x ∷ xs) (suc i) r h = heard_there c xs i r h
-
--- what is read at an equal place
-same-read : (c : RealmConfig) (n : ℕ) (rests : List Rest) (i j : ℕ) → i ≡ j
-    → Tells c n (get_or rests j awake) → Tells c n (get_or rests i awake)
-same-read c n rests i j is h = subst (λ (k : ℕ). Tells c n (get_or rests k awake)) (sym is) h
-
--- a list of events, from one of which on a link kept silent, and what its rest tells at the end
-record SilentSince (c : RealmConfig) (l : Link) (s : RealmState) (events : List RealmEvent) : Type 0 where
-  before : List RealmEvent
-  since : List RealmEvent
-  all : events ≡ before ++ since
-  no_sign : signs_over c (one_realm_run c s before).state l since ≡ 0
-  tells : At c l (given_up_over c (one_realm_run c s before).state l since) (one_realm_run c s events).state.rests
 
 module _ (c : RealmConfig) (l : Link) where
   chosen-at : (n now : ℕ) (rests : List Rest) (k : Link) → At c l n rests
@@ -362,7 +265,7 @@ module _ (c : RealmConfig) (l : Link) where
     tells = h.tells;
   }
 
-  events-at : (n : ℕ) (s : RealmState) (events : List RealmEvent) → At c l n s.rests
+  pub events-at : (n : ℕ) (s : RealmState) (events : List RealmEvent) → At c l n s.rests
       → SilentAll n s events ⊎ SilentSince c l s events
   events-at n s [] h = inl (refl, more c n (n + 0) (rest_of c s.rests l) (omega arith) h)
   events-at n s (e ∷ es) h =
@@ -394,72 +297,3 @@ module _ (c : RealmConfig) (l : Link) where
               | inr since ↦ inr (later s e es since)
             ]
       ]
-
--- ---- the laws
-
-resting_some : (now : ℕ) (o : Option ℕ) → option_map_or (λ until. nat_lt now until) o false ≡ true
-    → is_some o ≡ true
-resting_some now None is = absurd (cc is)
-resting_some now (Some until) is = refl
-
-enough : (c : RealmConfig) (n now : ℕ) (r : Rest) → Tells c n r
-    → option_map_or (λ until. nat_lt now until) r.until false ≡ true → c.realm.rest_after ≤ n
-enough c n now r h is =
-    let counted = h.counted in
-    let had = h.had (resting_some now r.until is) in
-    omega (arith, counted, had)
-
-pub rests-only_when_silent : RestsOnlyWhenSilent
-rests-only_when_silent c s l events now up stands =
-    let left : Rest = rest_of c (one_realm_run c s events).state.rests l in
-    elim (events-at c l 0 s events (up-tells c (rest_of c s.rests l) up)) [
-      | inl silent ↦ record {
-        before = [];
-        since = events;
-        all = refl;
-        no_sign = silent.0;
-        given_up = enough c (given_up_over c s l events) now left
-            (more c (0 + given_up_over c s l events) (given_up_over c s l events) left (omega arith) silent.1) stands;
-      }
-      | inr silent ↦ record {
-        before = silent.before;
-        since = silent.since;
-        all = silent.all;
-        no_sign = silent.no_sign;
-        given_up = enough c (given_up_over c (one_realm_run c s silent.before).state l silent.since) now left
-            silent.tells stands;
-      }
-    ]
-
--- where none is found among all links, none is among fewer
-none_or : (l : Link) (o : Option ℕ) (others : Option Target) → this_or l o others ≡ None
-    → (o ≡ None) × (others ≡ None)
-none_or l None others is = (refl, is)
-none_or l (Some id) others is = absurd (cc is)
-
-none-fewer : (c : RealmConfig) (cursors : List ℕ) (entries : List PlainEntry) (p : Link → Bool)
-    (links : List Link) → first_target c cursors entries links ≡ None
-    → first_target c cursors entries (filter p links) ≡ None
-none-fewer c cursors entries p [] is = refl
-none-fewer c cursors entries p (l ∷ ls) is =
-    let both = none_or l (next_toward c cursors entries l) (first_target c cursors entries ls) is in
-    let others = none-fewer c cursors entries p ls both.1 in
-    elim (cases_Bool (p l)) [
-      | inl kept ↦ rw kept (
-          ap (λ (o : Option ℕ). this_or l o (first_target c cursors entries (filter p ls))) both.0 ∙ others
-          )
-      | inr left_out ↦ rw left_out others
-    ]
-
-some-by : (one other : Option Target) → (other ≡ None → one ≡ None)
-    → is_some (option_or one other) ≡ is_some other
-some-by None None h = refl
-some-by None (Some t) h = refl
-some-by (Some t) None h = absurd (cc (h refl))
-some-by (Some t) (Some u) h = refl
-
-pub choice-is_never_worse : ChoiceIsNeverWorse
-choice-is_never_worse c now rests cursors entries links =
-    some-by (first_target c cursors entries (ready_links c now rests links))
-    (first_target c cursors entries links)
-    (none-fewer c cursors entries (λ k. not (stands_back c now rests k)) links)

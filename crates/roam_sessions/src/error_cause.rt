@@ -56,27 +56,33 @@ fn cause_by_user(realm: u16, named: Option<u16>, user: Option<&[u8]>) -> Option<
     Some(REQUEST_NOT_ROUTABLE)
 }
 
+/// A Disconnect- or CoA-Request for a peer, and the realm that its first User-Name names, if it names one.
+#[derive(Clone, Copy)]
+struct RequestToPeer<'r, 'o> {
+    request: &'r View<'o>,
+    peer: u16,
+    named: Option<u16>,
+}
+
 /// Returns why a request to a peer of a realm without `own_sessions` isn't forwarded for what it names, if it isn't.
 fn cause_by_name<A: Allocator + Copy>(
     realm: u16,
-    named: Option<u16>,
-    peer: u16,
-    request: &View<'_>,
+    asked: &RequestToPeer<'_, '_>,
     sessions: &Sessions<A>,
 ) -> Option<u32>
-    ensures { result ≡ cause_by_name realm named peer sessions.now.sessions
-        (first_value USER_NAME request.now.attributes)
-        (first_value ACCT_SESSION_ID request.now.attributes) }
+    ensures { result ≡ cause_by_name realm asked.now.named asked.now.peer sessions.now.sessions
+        (first_value USER_NAME asked.now.request.now.attributes)
+        (first_value ACCT_SESSION_ID asked.now.request.now.attributes) }
 {
-    let user = request.first(USER_NAME);
+    let user = asked.request.first(USER_NAME);
     if user.is_some() {
-        return cause_by_user(realm, named, user);
+        return cause_by_user(realm, asked.named, user);
     }
-    let Some(id) = first_short(request, ACCT_SESSION_ID) else {
+    let Some(id) = first_short(asked.request, ACCT_SESSION_ID) else {
         return Some(REQUEST_NOT_ROUTABLE);
     };
     let session = SessionRef {
-        peer,
+        peer: asked.peer,
         nas: no_nas(),
         id,
     };
@@ -122,21 +128,19 @@ fn cause_by_meant<A: Allocator + Copy>(
 /// Returns why a request to a peer of a realm with `own_sessions` isn't forwarded for what it names, if it isn't.
 fn cause_by_session<A: Allocator + Copy>(
     realm: u16,
-    named: Option<u16>,
-    peer: u16,
-    request: &View<'_>,
+    asked: &RequestToPeer<'_, '_>,
     sessions: &Sessions<A>,
 ) -> Option<u32>
-    ensures { result
-        ≡ cause_by_session realm named peer request.now.attributes sessions.now.sessions }
+    ensures { result ≡ cause_by_session realm asked.now.named asked.now.peer
+        asked.now.request.now.attributes sessions.now.sessions }
 {
-    if let Some(cause) = cause_by_count(request) {
+    if let Some(cause) = cause_by_count(asked.request) {
         return Some(cause);
     }
-    if let Some(cause) = cause_by_user(realm, named, request.first(USER_NAME)) {
+    if let Some(cause) = cause_by_user(realm, asked.named, asked.request.first(USER_NAME)) {
         return Some(cause);
     }
-    cause_by_meant(peer, request, sessions)
+    cause_by_meant(asked.peer, asked.request, sessions)
 }
 
 /// Returns why a request to a peer isn't forwarded for what it names, by whether that must be one of the realm's own
@@ -144,18 +148,16 @@ fn cause_by_session<A: Allocator + Copy>(
 fn cause_by_names<A: Allocator + Copy>(
     own: bool,
     realm: u16,
-    named: Option<u16>,
-    peer: u16,
-    request: &View<'_>,
+    asked: &RequestToPeer<'_, '_>,
     sessions: &Sessions<A>,
 ) -> Option<u32>
-    ensures { result
-        ≡ cause_by_names own realm named peer request.now.attributes sessions.now.sessions }
+    ensures { result ≡ cause_by_names own realm asked.now.named asked.now.peer
+        asked.now.request.now.attributes sessions.now.sessions }
 {
     if own {
-        cause_by_session(realm, named, peer, request, sessions)
+        cause_by_session(realm, asked, sessions)
     } else {
-        cause_by_name(realm, named, peer, request, sessions)
+        cause_by_name(realm, asked, sessions)
     }
 }
 
@@ -211,7 +213,12 @@ pub fn route_of<A: Allocator + Copy>(
         return Err(REQUEST_NOT_ROUTABLE);
     }
     let own = names_sessions(config, realm);
-    if let Some(cause) = cause_by_names(own, realm, named, peer, request, sessions) {
+    let asked = RequestToPeer {
+        request,
+        peer,
+        named,
+    };
+    if let Some(cause) = cause_by_names(own, realm, &asked, sessions) {
         return Err(cause);
     }
     match cause_by_salt(request) {

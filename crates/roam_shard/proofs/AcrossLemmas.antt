@@ -1,11 +1,10 @@
 -- The states of all realms, each in its own shard.
-use Rattle.std.proofs.Common.{◌≡◌, ◌≢◌, ℕ, zero, suc, ◌+◌, ◌%◌, ◌<◌, ◌≤◌, ◌^◌, ◌==◌, ◌&&◌, ◌||◌, Bool, true, false, List, [], ◌∷◌, ◌++◌, length, set, Some, None, Result, Ok, Err, refl, ap, sym, ◌∙◌, subst, inl, inr, arith}
-use Rattle.std.specs.Prelude.{◌⊎◌, if◌then◌else◌, IsErr, IsOk, nat_lt, not, slice_get, slice_index_or}
+use Rattle.std.proofs.Common.{◌≡◌, ◌≢◌, ℕ, suc, ◌+◌, ◌%◌, ◌<◌, ◌^◌, ◌==◌, ◌&&◌, ◌||◌, Bool, true, false, List, [], ◌∷◌, ◌++◌, length, set, Some, Result, Ok, Err, refl, ap, sym, ◌∙◌, subst, inl, inr, arith}
+use Rattle.std.specs.Prelude.{if◌then◌else◌, nat_lt, not, slice_get}
 use Rattle.std.proofs.Math.ListN.{length-set}
 use Rattle.std.proofs.lemmas.Bool.{cases_eq}
 use Rattle.std.proofs.lemmas.Bool.Decides.{nat_tests}
-use Rattle.std.proofs.lemmas.List.{get_or-set_same, get_or-set_other, length-append}
-use Rattle.std.proofs.lemmas.Option.{slice_get-get_or}
+use Rattle.std.proofs.lemmas.List.{get_or-set_same, get_or-set_other}
 use Rattle.roam_wire.specs.declared.refusal.NoMemory.{NoMemory}
 use Rattle.roam_wire.specs.declared.refusal.Refusal.TheVariants as refusal
 use Rattle.roam_conf.specs.Config.{ConfigView}
@@ -19,118 +18,18 @@ use Rattle.roam_exchange.specs.Turn.{Turn, sends, packets_of, refusal_of, state_
 use Rattle.roam_exchange.specs.Happenings.{PlainHappening}
 use Rattle.roam_exchange.specs.declared.answer.Answer.{Answer}
 use Rattle.roam_exchange.specs.declared.answer.Turned.{Turned}
-use Rattle.roam_realm.specs.declared.start.Start.{Start}
-use Rattle.roam_core.specs.BrokerView.{BrokerView}
-use Rattle.roam_core.specs.Events.{is_in_shard, ticks}
+use Rattle.roam_core.specs.Events.{is_in_shard}
 use Rattle.roam_core.specs.ShardRooms.{only_done_from}
-use Rattle.roam_core.specs.ManyRealms.{BrokerTurn, no_state, refuses_it, state_at, states_after, tick_all, tick_from, tick_of, to_arrival, to_tick, turn_of_one}
-use Rattle.roam_core.specs.Openings.{openings, openings_from}
+use Rattle.roam_core.specs.ManyRealms.{no_state, refuses_it, state_at, tick_all, tick_from, tick_of, to_arrival, to_tick, turn_of_one}
 use Rattle.roam_core.specs.Steps.{GivesAnswer, IsAnswer}
-use Rattle.roam_core.proofs.EventLemmas.{event-length}
 use Rattle.roam_core.proofs.TickLemmas.{tick_from-length, tick_states}
 use Rattle.roam_tables.proofs.RealmLemmas.{get-set_other, get-set_same}
-use Rattle.roam_shard.specs.Across.{IsSharded, IsShardOf, all_states, no_shard, own_state, states_across}
+use Rattle.roam_shard.specs.Across.{IsSharded, IsShardOf, all_states, own_state}
 use Rattle.roam_shard.specs.ShardView.{OpeningView, ShardView}
 use Rattle.roam_shard.specs.Private.Lost.{IsAnswerOf}
 use Rattle.roam_shard.specs.Turns.{GivesTurn}
 use Rattle.roam_shard.proofs.TurnLemmas.{packets_one, states_one, refusal_one}
-
--- lists with the same state at each place are the same
-pub same_everywhere : (one two : List RealmState) → length one ≡ length two
-    → ((k : ℕ) → k < length one → state_at one k ≡ state_at two k) → one ≡ two
-same_everywhere [] [] many same = refl
-same_everywhere [] (s ∷ ss) many same = absurd (omega arith)
-same_everywhere (s ∷ ss) [] many same = absurd (omega arith)
-same_everywhere (s ∷ ss) (t ∷ ts) many same =
-    let here : s ≡ t = same 0 (omega arith) in
-    let rest = same_everywhere ss ts (omega arith) (λ k lt. same (suc k) (omega arith)) in
-    λ j. here j ∷ rest j
-
-openings-length : (config : ConfigView) (r : ℕ) (starts : List Start)
-    → length (openings_from config r starts) ≡ length starts
-openings-length config r [] = refl
-openings-length config r (x ∷ xs) = ap suc (openings-length config (r + 1) xs)
-
-pub length-across : (config : ConfigView) (shards : List ShardView) (r n : ℕ)
-    → length (states_across config shards r n) ≡ n
-unfolding states_across
-length-across config shards r zero = refl
-length-across config shards r (suc n) = ap suc (length-across config shards (r + 1) n)
-
-across-within : (config : ConfigView) (shards : List ShardView) (r n k : ℕ) → k < n
-    → state_at (states_across config shards r n) k ≡ own_state config shards (r + k)
-unfolding states_across
-across-within config shards r zero k lt = absurd (omega arith)
-across-within config shards r (suc n) zero lt =
-    (let e : r ≡ r + 0 = omega arith in ap (λ (q : ℕ). own_state config shards q) e)
-across-within config shards r (suc n) (suc k) lt =
-    across-within config shards (r + 1) n k (omega arith)
-    ∙ (let e : r + 1 + k ≡ r + suc k = omega arith in ap (λ (q : ℕ). own_state config shards q) e)
-
-pub state-across : (config : ConfigView) (shards : List ShardView) (k : ℕ)
-    → k < length config.realms → state_at (all_states config shards) k ≡ own_state config shards k
-state-across config shards k lt =
-    across-within config shards 0 (length config.realms) k lt
-    ∙ (let e : 0 + k ≡ k = omega arith in ap (λ (q : ℕ). own_state config shards q) e)
-
--- a realm's state among all, where its shard is this one
-own-there : (config : ConfigView) (shards : List ShardView) (r k : ℕ) (s : ShardView)
-    → r % config.shards ≡ k → slice_get shards k ≡ Some s
-    → own_state config shards r ≡ state_at s.states r
-own-there config shards r k s is at =
-    ap (λ (q : ℕ). state_at (slice_index_or shards q (no_shard config)).states r) is
-    ∙ ap (λ (x : ShardView). state_at x.states r) (read shards k s at)
-  where
-    read : (xs : List ShardView) (q : ℕ) (x : ShardView) → slice_get xs q ≡ Some x
-        → slice_index_or xs q (no_shard config) ≡ x
-    read [] q x at = absurd (let bad : None ≡ Some x = at in cc)
-    read (y ∷ ys) zero x at = (let some : Some y ≡ Some x = at in cc)
-    read (y ∷ ys) (suc q) x at = read ys q x at
-
-own-elsewhere : (config : ConfigView) (shards : List ShardView) (r k : ℕ) (s : ShardView)
-    → r % config.shards ≢ k → own_state config (set shards k s) r ≡ own_state config shards r
-own-elsewhere config shards r k s ne =
-    ap (λ (x : ShardView). state_at x.states r) (same shards k (r % config.shards) ne)
-  where
-    same : (xs : List ShardView) (i q : ℕ) → q ≢ i
-        → slice_index_or (set xs i s) q (no_shard config) ≡ slice_index_or xs q (no_shard config)
-    same [] zero q ne = refl
-    same [] (suc i) q ne = refl
-    same (x ∷ xs) zero zero ne = absurd (ne refl)
-    same (x ∷ xs) zero (suc q) ne = refl
-    same (x ∷ xs) (suc i) zero ne = refl
-    same (x ∷ xs) (suc i) (suc q) ne = same xs i q (λ is. ne (ap suc is))
-
--- there are as many states after a turn
-turned_length : {A : Type 0}
-    → (result : Result (Turned A) NoMemory) (old new : List RealmState) (turn : BrokerTurn)
-    (happening : PlainHappening)
-    → GivesTurn result old new turn happening → length (states_after old turn) ≡ length old
-    → length new ≡ length old
-turned_length (Ok turned) old new turn happening gives many =
-    ap (λ (l : List RealmState). length l) gives.answer.states ∙ many
-turned_length (Err e) old new turn happening gives many = ap (λ (l : List RealmState). length l) gives
-
-pub job_length : {A : Type 0}
-    → (result : Result (Turned A) NoMemory) (config : ConfigView) (old new : List RealmState)
-    (now : ℕ) (job : PlainJob) (happening : PlainHappening)
-    → GivesTurn result old new (to_arrival config old now (admitted job)) happening
-    → length new ≡ length old
-job_length result config old new now job happening gives =
-    let turn =
-    on_event (realm_config config job.realm) (state_at old job.realm) (event_of now job) in
-    turned_length result old new (turn_of_one old job.realm turn) happening gives
-    (ap (λ (l : List RealmState). length l) (states_one old job.realm turn)
-    ∙ length-set old job.realm (state_after (state_at old job.realm) turn))
-
-pub tick_length : {A : Type 0}
-    → (result : Result (Turned A) NoMemory) (config : ConfigView) (old new : List RealmState)
-    (now shard : ℕ) (happening : PlainHappening)
-    → GivesTurn result old new (to_tick config old now shard) happening
-    → length new ≡ length old
-tick_length result config old new now shard happening gives =
-    turned_length result old new (to_tick config old now shard) happening gives
-    (event-length config old (ticks now shard))
+use Rattle.roam_shard.proofs.AcrossStateLemmas.{same_everywhere, length-across, state-across, own-there, own-elsewhere}
 
 -- one shard's states become these
 module _ (config : ConfigView) (shards : List ShardView) (k : ℕ) (s t : ShardView)
@@ -426,112 +325,3 @@ module _ (config : ConfigView) (shards : List ShardView) (k : ℕ) (s t : ShardV
     count = length-set shards k t ∙ are.count;
     some_shard = are.some_shard;
   }
-
--- all begin where each shard begins
-pub all_open : (config : ConfigView) (shards : List ShardView) (states : List RealmState)
-    → 1 ≤ config.shards → length shards ≡ config.shards → length states ≡ length config.realms
-    → ((k : ℕ) (s : ShardView) → slice_get shards k ≡ Some s → s.states ≡ states)
-    → all_states config shards ≡ states
-all_open config shards states some count whole each =
-    let many = length-across config shards 0 (length config.realms) in
-    same_everywhere (all_states config shards) states (omega (arith, many, whole))
-    (λ q there. state-across config shards q (omega (arith, there, many))
-    ∙ at q (read shards (q % config.shards)
-    (omega (arith, count, mod_below q config.shards some))))
-  where
-    read : (xs : List ShardView) (k : ℕ) → k < length xs
-        → slice_get xs k ≡ Some (slice_index_or xs k (no_shard config))
-    read xs k lt = slice_get-get_or xs k (no_shard config) lt
-
-    at : (q : ℕ) → slice_get shards (q % config.shards)
-        ≡ Some (slice_index_or shards (q % config.shards) (no_shard config))
-        → own_state config shards q ≡ state_at states q
-    at q there = ap (λ (l : List RealmState). state_at l q) (each (q % config.shards) _ there)
-
-    mod_below : (q n : ℕ) → 1 ≤ n → q % n < n
-    mod_below q n some = omega (arith)
-
--- there is a state for each realm
-pub whole_across : (config : ConfigView) (shards : List ShardView) (view : BrokerView)
-    → record { config = config; states = all_states config shards } ≡ view
-    → length view.states ≡ length view.config.realms
-whole_across config shards view is =
-    subst (λ (v : BrokerView). length v.states ≡ length v.config.realms) is
-    (length-across config shards 0 (length config.realms))
-
--- want of memory is handed on, and comes from the shard alone
-pub first_fails : {A : Type 0}
-    → (result : Result (Turned A) NoMemory) (out : Result (Answer A) NoMemory) → IsAnswerOf result out
-    → IsErr out → IsOk result → ⊥
-first_fails (Ok turned) (Ok answer) first err ok = absurd (cc err)
-first_fails (Ok turned) (Err e) first err ok = absurd first
-first_fails (Err e) (Ok answer) first err ok = absurd first
-first_fails (Err e) (Err f) first err ok = absurd (cc ok)
-
--- the first shards of a broker, each as it began
-pub record AreFirst (config : ConfigView) (starts : List Start) (count : ℕ)
-    (shards : List ShardView) : Type 0 where
-  pub number : length shards ≡ count
-  pub each : (k : ℕ) (s : ShardView) → slice_get shards k ≡ Some s
-      → IsShardOf config k s × (s.states ≡ openings config starts)
-
-pub no_shards : (config : ConfigView) (starts : List Start) → AreFirst config starts 0 []
-no_shards config starts =
-    record { number = refl; each = λ k s at. absurd (let bad : None ≡ Some s = at in cc) }
-
-pub one_shard_more : (config : ConfigView) (starts : List Start) (count : ℕ)
-    (shards : List ShardView) (s : ShardView) → AreFirst config starts count shards
-    → length starts ≡ length config.realms
-    → s.opening ≡ record { shard = count; config = config; starts = starts }
-    → s.states ≡ openings config starts → AreFirst config starts (count + 1) (shards ++ s ∷ [])
-one_shard_more config starts count shards s are whole begins opens = record {
-  number = omega (arith, length-append shards (s ∷ []), are.number);
-  each =
-      λ k t there. elim (push shards t k there) as
-      (λ _. IsShardOf config k t × (t.states ≡ openings config starts)) [
-        | inl last ↦ (
-            let is : count ≡ k = sym are.number ∙ sym last.0 in
-            subst (λ (x : ShardView). IsShardOf config k x × (x.states ≡ openings config starts))
-            last.1 (
-              record {
-                same_config = ap (λ (o : OpeningView). o.config) begins;
-                own_number = ap (λ (o : OpeningView). o.shard) begins ∙ is;
-                whole =
-                    ap (λ (l : List RealmState). length l) opens ∙ openings-length config 0 starts
-                    ∙ whole;
-              },
-              opens,
-            ))
-        | inr earlier ↦ are.each k t earlier
-      ];
-}
-  where
-    push : (ns : List ShardView) (t : ShardView) (k : ℕ) → slice_get (ns ++ s ∷ []) k ≡ Some t
-        → ((k ≡ length ns) × (s ≡ t)) ⊎ (slice_get ns k ≡ Some t)
-    push [] t zero at = (let some : Some s ≡ Some t = at in let is : s ≡ t = cc in inl (refl, is))
-    push [] t (suc k) at = absurd (let bad : None ≡ Some t = at in cc)
-    push (x ∷ xs) t zero at = inr at
-    push (x ∷ xs) t (suc k) at =
-        elim (push xs t k at) as (λ _.
-        ((suc k ≡ length (x ∷ xs)) × (s ≡ t)) ⊎ (slice_get (x ∷ xs) (suc k) ≡ Some t)) [
-          | inl last ↦ inl (ap suc last.0, last.1)
-          | inr there ↦ inr there
-        ]
-
-pub all_sharded : (config : ConfigView) (starts : List Start) (count : ℕ) (shards : List ShardView)
-    → AreFirst config starts count shards → count ≡ config.shards → 1 ≤ config.shards
-    → IsSharded config shards
-all_sharded config starts count shards are all some = record {
-  each = λ k s at. (are.each k s at).0;
-  count = are.number ∙ all;
-  some_shard = some;
-}
-
-pub all_opened : (config : ConfigView) (starts : List Start) (count : ℕ) (shards : List ShardView)
-    → AreFirst config starts count shards → count ≡ config.shards → 1 ≤ config.shards
-    → length starts ≡ length config.realms
-    → all_states config shards ≡ openings config starts
-all_opened config starts count shards are all some whole =
-    all_open config shards (openings config starts) some (are.number ∙ all)
-    (openings-length config 0 starts ∙ whole)
-    (λ k s at. (are.each k s at).1)

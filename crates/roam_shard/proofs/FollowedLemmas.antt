@@ -21,9 +21,10 @@ use Rattle.roam_shard.specs.Pausing.{AllCanGoOver, AreOver, GoesOn, HasNumbersTh
 use Rattle.roam_shard.specs.ShardView.{IsShard, OpeningView, states_in}
 use Rattle.roam_shard.specs.declared.following.FreshRealm.{FreshRealm}
 use Rattle.roam_shard.proofs.CarriedListLemmas.{list_then}
-use Rattle.roam_shard.proofs.FollowLemmas.{AreReady, Cleared, HasNumbersAt, begins_where, good_begin, here_within, own_numbers, some_within, stands_at, still_own}
+use Rattle.roam_shard.proofs.FollowLemmas.{Cleared, HasNumbersAt, begins_where, good_begin, here_within, own_numbers, some_within, stands_at, still_own}
+use Rattle.roam_shard.proofs.ReadyLemmas.{AreReady}
 use Rattle.roam_shard.proofs.OpeningLemmas.{sound_fresh, state_fresh}
-use Rattle.roam_shard.proofs.ShardLemmas.{length-states}
+use Rattle.roam_shard.proofs.StatesLemmas.{length-states}
 
 module _ {A : Type 0} (old new : ConfigView) (shard : ℕ) where
   -- a realm's numbers and entries under the new configuration

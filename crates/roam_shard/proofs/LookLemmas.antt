@@ -17,7 +17,7 @@ use Rattle.roam_core.specs.Events.{is_in_shard}
 use Rattle.roam_core.specs.ManyRealms.{state_at}
 use Rattle.roam_shard.specs.Looks.{IsLoss, IsOwn, NoneThere}
 use Rattle.roam_shard.specs.ShardView.{IsShard, OpeningView, ShardView, states_in}
-use Rattle.roam_shard.proofs.ShardLemmas.{state-seen}
+use Rattle.roam_shard.proofs.StatesLemmas.{state-seen}
 
 module _ {A : Type 0} (o : OpeningView) (tables : List RealmView) (ns : List (Option (RealmNumbers A)))
     (view : ShardView) (is : record { opening = o; states = states_in o tables ns } ≡ view)

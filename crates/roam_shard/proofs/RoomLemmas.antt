@@ -14,7 +14,7 @@ use Rattle.roam_core.specs.ManyRealms.{no_state, state_at}
 use Rattle.roam_core.specs.ShardRooms.{most_of, most_of_all, IsRealmRoom, AreRooms, wants_room}
 use Rattle.roam_shard.specs.Private.Rooms.{AllForLines, IsForLines}
 use Rattle.roam_shard.specs.ShardView.{OpeningView, state_seen, states_from}
-use Rattle.roam_shard.proofs.ShardLemmas.{state-seen}
+use Rattle.roam_shard.proofs.StatesLemmas.{state-seen}
 
 -- one room more
 rooms-push : {A : Type 0} → (config : ConfigView) (now shard realm first : ℕ) (ss : List RealmState)

@@ -19,7 +19,7 @@ use Rattle.roam_core.specs.Events.{is_in_shard}
 use Rattle.roam_core.specs.ManyRealms.{no_state}
 use Rattle.roam_core.proofs.PacketLemmas.{other_index, same_index}
 use Rattle.roam_shard.specs.ShardView.{IsShard, OpeningView, states_in}
-use Rattle.roam_shard.proofs.ShardLemmas.{length-states, state-seen, states-set}
+use Rattle.roam_shard.proofs.StatesLemmas.{length-states, state-seen, states-set}
 use Rattle.roam_shard.specs.Restoring.{with_one, with_saved, with_saved_from}
 
 either-way : {X : Type 0} (b : Bool) (x : X) → (if b then x else x) ≡ x

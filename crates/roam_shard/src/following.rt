@@ -16,7 +16,7 @@ ghost use Rattle.roam_shard.specs.Pausing.{states_under};
 use crate::paused::Paused;
 use crate::realm_numbers::{begin_at, opened_at};
 use roam_conf::Config;
-use roam_migrate::{FreshLanes, carry_over, changed_peers, reserve_carry};
+use roam_migrate::{FreshLanes, SettingsChange, carry_over, changed_peers, reserve_carry};
 use roam_realm::{RealmNumbers, RealmSettings};
 use roam_reload::is_carried;
 use roam_tables::Tables;
@@ -42,24 +42,24 @@ pub struct FreshNumbers<A: Allocator> {
     numbers: Vec<Option<RealmNumbers<A>>, A>,
 }
 
-/// A configuration that follows another, as one shard sees it.
+/// A configuration that follows another, as one shard sees it, and the peers whose tables are other ones there.
 #[derive(Clone, Copy)]
-struct Succession<'o, 'n> {
+struct Succession<'o, 'n, 'c> {
     from: &'o Config,
     to: &'n Config,
     shard: u16,
+    changed: &'c [u16],
 }
 
-/// Returns whether a realm is one of the shard's, and goes on.
-fn goes_on(change: Succession<'_, '_>, realm: u16) -> bool
-    ensures { IsTrue result
-        ↔ GoesOn (shown change.entry.from.now) (shown change.entry.to.now) change.entry.shard realm }
+/// Returns whether a realm is one of the shard's, and goes on under the configuration that follows.
+fn goes_on(from: &Config, to: &Config, shard: u16, realm: u16) -> bool
+    ensures { IsTrue result ↔ GoesOn (shown from.now) (shown to.now) shard realm }
 {
-    change.to.shard_of(realm) == change.shard && is_carried(change.from, change.to, realm)
+    to.shard_of(realm) == shard && is_carried(from, to, realm)
 }
 
 /// Takes out the entries of each realm that doesn't go on. Takes no memory.
-fn clear_others<A: Allocator + Copy>(entries: &mut Tables<A>, change: Succession<'_, '_>)
+fn clear_others<A: Allocator + Copy>(entries: &mut Tables<A>, change: Succession<'_, '_, '_>)
     ensures stay { (r : ℕ) → GoesOn (shown change.entry.from.now) (shown change.entry.to.now) change.entry.shard r
         → entries_in entries.new r ≡ entries_in entries.old r }
     ensures gone { (r : ℕ) → r < vec_len change.entry.to.now.realms
@@ -71,7 +71,7 @@ fn clear_others<A: Allocator + Copy>(entries: &mut Tables<A>, change: Succession
 {
     let most = change.from.realms.len().max(change.to.realms.len());
     for realm in 0..most {
-        if !goes_on(change, realm as u16) {
+        if !goes_on(change.from, change.to, change.shard, realm as u16) {
             entries.clear(realm as u16);
         }
     }
@@ -79,15 +79,14 @@ fn clear_others<A: Allocator + Copy>(entries: &mut Tables<A>, change: Succession
 
 /// Carries the numbers of a realm that goes on over, with the memory that was taken for it. Takes no memory.
 fn carried<A: Allocator + Copy>(
-    change: Succession<'_, '_>,
-    changed: &[u16],
+    change: Succession<'_, '_, '_>,
     realm: u16,
     entries: &mut Tables<A>,
     mut numbers: RealmNumbers<A>,
     lanes: Option<FreshLanes<A>>,
 ) -> RealmNumbers<A>
     requires carried { GoesOn (shown change.from.now) (shown change.to.now) change.shard realm }
-    requires changed { AreChanged (shown change.from.now).peers (shown change.to.now).peers changed.now }
+    requires changed { AreChanged (shown change.from.now).peers (shown change.to.now).peers change.changed.now }
     requires seed { change.to.now.top.seed ≡ change.from.now.top.seed }
     requires sound { IsSound (realm_config (shown change.from.now) realm) (entries_in entries.old realm) numbers }
     requires ready { IsReadyToCarry (realm_config (shown change.from.now) realm)
@@ -100,22 +99,26 @@ fn carried<A: Allocator + Copy>(
 {
     let old = RealmSettings::new(change.from, realm);
     let new = RealmSettings::new(change.to, realm);
-    carry_over(&old, &new, changed, entries, &mut numbers, lanes);
+    let settings = SettingsChange {
+        before: &old,
+        after: &new,
+        changed: change.changed,
+    };
+    carry_over(&settings, entries, &mut numbers, lanes);
     numbers
 }
 
 /// Returns the numbers of a realm under the new configuration: those with which it goes on, or what was made for it.
 /// Takes no memory.
 fn go_over<A: Allocator + Copy>(
-    change: Succession<'_, '_>,
-    changed: &[u16],
+    change: Succession<'_, '_, '_>,
     realm: usize,
     entries: &mut Tables<A>,
     before: &mut Vec<Option<RealmNumbers<A>>, A>,
     fresh: FreshRealm<A>,
 ) -> Option<RealmNumbers<A>>
     requires configured { realm < vec_len change.to.now.realms }
-    requires changed { AreChanged (shown change.from.now).peers (shown change.to.now).peers changed.now }
+    requires changed { AreChanged (shown change.from.now).peers (shown change.to.now).peers change.changed.now }
     requires seed { change.to.now.top.seed ≡ change.from.now.top.seed }
     requires within { GoesOn (shown change.from.now) (shown change.to.now) change.shard realm
         → realm < length before.old.items }
@@ -131,50 +134,39 @@ fn go_over<A: Allocator + Copy>(
         → slice_get before.new.items r ≡ slice_get before.old.items r }
     ensures before_count { length before.new.items ≡ length before.old.items }
 {
-    if !goes_on(change, realm as u16) {
+    if !goes_on(change.from, change.to, change.shard, realm as u16) {
         return fresh.numbers;
     }
     match before[realm].take() {
-        Some(numbers) => Some(carried(
-            change,
-            changed,
-            realm as u16,
-            entries,
-            numbers,
-            fresh.lanes,
-        )),
+        Some(numbers) => Some(carried(change, realm as u16, entries, numbers, fresh.lanes)),
         None => None,
     }
 }
 
 /// Returns the numbers of all realms under the new configuration. Takes no memory.
 fn all_over<A: Allocator + Copy>(
-    change: Succession<'_, '_>,
+    change: Succession<'_, '_, '_>,
     entries: &mut Tables<A>,
     before: &mut Vec<Option<RealmNumbers<A>>, A>,
-    fresh: FreshNumbers<A>,
+    realms: Vec<FreshRealm<A>, A>,
+    mut numbers: Vec<Option<RealmNumbers<A>>, A>,
 ) -> Vec<Option<RealmNumbers<A>>, A>
-    requires count { length fresh.realms.items ≡ vec_len change.to.now.realms }
-    requires room { vec_len change.to.now.realms ≤ vec_capacity fresh.numbers }
-    requires none_yet { fresh.numbers.items ≡ [] }
-    requires changed { AreChanged (shown change.from.now).peers (shown change.to.now).peers fresh.changed.items }
+    requires count { length realms.items ≡ vec_len change.to.now.realms }
+    requires room { vec_len change.to.now.realms ≤ vec_capacity numbers }
+    requires none_yet { numbers.items ≡ [] }
+    requires changed { AreChanged (shown change.from.now).peers (shown change.to.now).peers change.changed.now }
     requires seed { change.to.now.top.seed ≡ change.from.now.top.seed }
     requires within { (r : ℕ) → GoesOn (shown change.from.now) (shown change.to.now) change.shard r
         → r < length before.old.items }
     requires can { AllCanGoOver (shown change.from.now) (shown change.to.now) change.shard (entries_in entries.old)
-        before.old.items fresh.realms.items }
+        before.old.items realms.items }
     ensures over { AreOver (shown change.entry.from.now) (shown change.entry.to.now) change.entry.shard
-        before.old.items (entries_in entries.old) (entries_in entries.new) fresh.realms.items result.items }
+        before.old.items (entries_in entries.old) (entries_in entries.new) realms.items result.items }
     ensures realms { length entries.new ≡ length entries.old }
 {
-    let FreshNumbers {
-        realms,
-        changed,
-        mut numbers,
-    } = fresh;
     let mut index = 0;
     for realm in realms {
-        let after = go_over(change, changed.as_slice(), index, entries, before, realm);
+        let after = go_over(change, index, entries, before, realm);
         numbers.push_reserved(after);
         index += 1;
     }
@@ -221,12 +213,7 @@ impl<A: Allocator + Copy> Paused<A> {
         ensures ready { IfOk result (IsReadyAt (shown old.now) (shown new.now) self.new.shard realm
             self.new.numbers.items) }
     {
-        let change = Succession {
-            from: old,
-            to: new,
-            shard: self.shard,
-        };
-        if goes_on(change, realm) {
+        if goes_on(old, new, self.shard, realm) {
             let lanes = self.reserve_lanes(old, new, realm)?;
             return Ok(FreshRealm {
                 numbers: None,
@@ -276,13 +263,19 @@ impl<A: Allocator + Copy> Paused<A> {
             (states_under (shown old.now) self.old) (states_under (shown new.now) self.new) }
         ensures shard { self.new.shard ≡ self.old.shard }
     {
+        let FreshNumbers {
+            realms,
+            changed,
+            numbers,
+        } = fresh;
         let change = Succession {
             from: old,
             to: new,
             shard: self.shard,
+            changed: changed.as_slice(),
         };
         clear_others(&mut self.entries, change);
         let before = &mut self.numbers;
-        self.numbers = all_over(change, &mut self.entries, before, fresh);
+        self.numbers = all_over(change, &mut self.entries, before, realms, numbers);
     }
 }

@@ -19,6 +19,13 @@ use roam_tables::Tables;
 use roam_wire::NoMemory;
 use std::alloc::Allocator;
 
+/// When a tick comes, in milliseconds, and of which exchanges lines tell then.
+#[derive(Clone, Copy)]
+pub(crate) struct TickTerms {
+    pub now: u64,
+    pub lines: ExchangeLines,
+}
+
 /// The memory of a shard's tick: a room for each realm that wants one, in the order of all realms, and a
 /// place for each packet that may be sent and for what may become of each request.
 pub(crate) struct TickRooms<A: Allocator> {
@@ -32,22 +39,21 @@ fn room_at<A: Allocator + Copy>(
     alloc: A,
     entries: &Tables<A>,
     realm: u16,
-    now: u64,
+    terms: TickTerms,
     takes_part: bool,
-    lines: ExchangeLines,
 ) -> Result<Option<Room<A>>, NoMemory>
-    ensures room { IfOk result (IsRealmRoom now
-        (takes_part && not (only_done_due now (entries_in entries.now realm)))
+    ensures room { IfOk result (IsRealmRoom terms.now
+        (takes_part && not (only_done_due terms.now (entries_in entries.now realm)))
         (entries_in entries.now realm)) }
-    ensures lines { IfOk result (IsForLines lines) }
+    ensures lines { IfOk result (IsForLines terms.lines) }
 {
     if !takes_part {
         return Ok(None);
     }
-    if only_done_due(entries, realm, now) {
+    if only_done_due(entries, realm, terms.now) {
         return Ok(None);
     }
-    let room = room_for(alloc, realm, entries, now, lines)?;
+    let room = room_for(alloc, realm, entries, terms.now, terms.lines)?;
     Ok(Some(room))
 }
 
@@ -57,13 +63,12 @@ pub(crate) fn room_of_shard<A: Allocator + Copy>(
     opening: &Opening<'_, A>,
     entries: &Tables<A>,
     numbers: &[Option<RealmNumbers<A>>],
-    now: u64,
-    lines: ExchangeLines,
+    terms: TickTerms,
 ) -> Result<TickRooms<A>, NoMemory>
     requires { IsShard (shown_opening opening.now) entries.now numbers.now }
-    ensures rooms { IfOk result (λ room. AreRooms (shown opening.now.config.now) now opening.now.shard 0
+    ensures rooms { IfOk result (λ room. AreRooms (shown opening.now.config.now) terms.now opening.now.shard 0
         (states_in (shown_opening opening.now) entries.now numbers.now) room.rooms.items) }
-    ensures lines { IfOk result (λ room. AllForLines lines room.rooms.items) }
+    ensures lines { IfOk result (λ room. AllForLines terms.lines room.rooms.items) }
     ensures sent { IfOk result (λ room. room.gathered.sent.items ≡ []) }
     ensures dues { IfOk result (λ room. room.gathered.dues.items ≡ []) }
     ensures places { IfOk result (λ room. HasPlaces (most_of_all room.rooms.items) room.gathered) }
@@ -71,7 +76,7 @@ pub(crate) fn room_of_shard<A: Allocator + Copy>(
     let mut rooms = Vec::new(alloc);
     let mut most: usize = 0;
     for (realm, own) in numbers.iter().enumerate() {
-        let room = room_at(alloc, entries, realm as u16, now, own.is_some(), lines)?;
+        let room = room_at(alloc, entries, realm as u16, terms, own.is_some())?;
         most = with_room(most, &room)?;
         rooms.push(room)?;
     }

@@ -29,7 +29,7 @@ use crate::gathered::Gathered;
 use crate::jobs::handle_job;
 use crate::opening::Opening;
 use crate::realm_numbers::opened_numbers;
-use crate::rooms::{TickRooms, room_of_shard};
+use crate::rooms::{TickRooms, TickTerms, room_of_shard};
 use roam_admission::Job;
 use roam_conf::{Config, ExchangeLines};
 use roam_exchange::{Room, Turned, refused_turn};
@@ -279,7 +279,8 @@ impl<'c, A: Allocator + Copy> Shard<'c, A> {
             return Ok(Gathered::only_left(self.alloc, left).into_turned());
         }
         let (entries, numbers) = (&self.entries, &self.numbers);
-        let room = room_of_shard(self.alloc, &self.opening, entries, numbers, now, lines)?;
+        let terms = TickTerms { now, lines };
+        let room = room_of_shard(self.alloc, &self.opening, entries, numbers, terms)?;
         Ok(self.tick_in(now, room))
     }
 }

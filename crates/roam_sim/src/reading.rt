@@ -123,22 +123,34 @@ fn tick<A: Allocator>(fields: &str) -> Option<Event<A>>
     }
 }
 
+/// The four fields behind the letter of an arrival.
+#[derive(Clone, Copy)]
+struct ArrivalFields<'t> {
+    now: &'t str,
+    at: &'t str,
+    from: &'t str,
+    octets: &'t str,
+}
+
 /// Reads an arrival, by what stands in its four fields, and whether its session is kept.
 fn arrival<A: Allocator>(
     alloc: A,
     keeps_session: bool,
-    now: &str,
-    at: &str,
-    from: &str,
-    octets: &str,
+    fields: ArrivalFields<'_>,
 ) -> Result<Option<Event<A>>, NoMemory>
-    ensures ok { IfOk result (λ e. option_map shown_event e ≡ spec.arrival keeps_session (spec.times_in now.now)
-        (spec.place_in at.now) (endpoint_in from.now) (spec.datagram_in octets.now)) }
-    ensures memory { OnErr result (IsSome (spec.arrival keeps_session (spec.times_in now.now)
-        (spec.place_in at.now) (endpoint_in from.now) (spec.datagram_in octets.now))) }
+    ensures ok { IfOk result (λ e. option_map shown_event e ≡ spec.arrival keeps_session
+        (spec.times_in fields.entry.now.now) (spec.place_in fields.entry.at.now)
+        (endpoint_in fields.entry.from.now) (spec.datagram_in fields.entry.octets.now)) }
+    ensures memory { OnErr result (IsSome (spec.arrival keeps_session
+        (spec.times_in fields.entry.now.now) (spec.place_in fields.entry.at.now)
+        (endpoint_in fields.entry.from.now) (spec.datagram_in fields.entry.octets.now))) }
 {
-    match (times(now), place(at), Endpoint::from_text(from)) {
-        (Some((now, seconds)), Some(at), Some(from)) => match datagram(alloc, octets)? {
+    match (
+        times(fields.now),
+        place(fields.at),
+        Endpoint::from_text(fields.from),
+    ) {
+        (Some((now, seconds)), Some(at), Some(from)) => match datagram(alloc, fields.octets)? {
             Some(octets) => {
                 let datagram = Datagram {
                     at,
@@ -156,14 +168,19 @@ fn arrival<A: Allocator>(
 }
 
 /// Cuts the four fields apart that follow the letter of an arrival; the last is all that follows the third.
-fn four_fields(fields: &str) -> Option<(&str, &str, &str, &str)>
+fn four_fields(fields: &str) -> Option<ArrivalFields<'_>>
     ensures { MatchOption result ((keeps_session : Bool) → spec.arrival_of keeps_session (parts 32 fields.now) ≡ None)
-        (λ f. parts 32 fields.now ≡ f.0.now ∷ f.1.now ∷ f.2.now ∷ parts 32 f.3.now) }
+        (λ f. parts 32 fields.now ≡ f.now.now ∷ f.at.now ∷ f.from.now ∷ parts 32 f.octets.now) }
 {
     let (now, rest) = cut_at_space(fields)?;
     let (at, rest) = cut_at_space(rest)?;
     let (from, octets) = cut_at_space(rest)?;
-    Some((now, at, from, octets))
+    Some(ArrivalFields {
+        now,
+        at,
+        from,
+        octets,
+    })
 }
 
 /// Returns what follows the letter of an arrival, whose session is kept or not.
@@ -178,7 +195,7 @@ fn arrival_of<A: Allocator>(
     ensures memory { OnErr result (IsSome (spec.arrival_of keeps_session (parts 32 fields.now))) }
 {
     match four_fields(fields) {
-        Some((now, at, from, octets)) => arrival(alloc, keeps_session, now, at, from, octets),
+        Some(four) => arrival(alloc, keeps_session, four),
         None => Ok(None),
     }
 }

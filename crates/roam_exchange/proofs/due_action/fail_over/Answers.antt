@@ -6,16 +6,18 @@ use Rattle.roam_pending.proofs.OrderLemmas.{list-without}
 use Rattle.roam_pending.proofs.ChangeLemmas.{find-without}
 use Rattle.roam_realm.specs.Sound.{LanesTell}
 use Rattle.roam_exchange.proofs.BecameLemmas.{became-forwarded, became-gone}
-use Rattle.roam_exchange.proofs.DueActionLemmas.{IsSent, gone-freed, forwarded-freed, was-freed}
+use Rattle.roam_exchange.proofs.FailOverLemmas.{IsSent, gone-freed, forwarded-freed, was-freed}
 use Rattle.roam_exchange.proofs.RoomLemmas.{buffers-smaller}
+use Rattle.roam_exchange.proofs.SendingLemmas.{forwarded_size-request}
 use Rattle.roam_exchange.proofs.due_action.fail_over.Goals as goal
 
 -- no later target has a free Identifier
 pub returns-in_default-clause-action : goal.returns-in_default-clause-action
 returns-in_default-clause-action g c =
+    let silent = c.args.silent.now in
     λ es held.
-    let e = shown c.args.entry.now in
-    let freed = was-freed c.args.settings.now c.args.now c.args.link c.args.id c.args.signs es e c.args.numbers.now
+    let e = shown silent.pending.now in
+    let freed = was-freed c.args.settings.now c.args.now silent.link silent.id silent.signs es e c.args.numbers.now
     c.give_back.new.self c.count_silence.new.self held c.requires.waits
     (record {
       cursors = c.give_back.ensures.cursors;
@@ -35,17 +37,18 @@ returns-in_default-clause-action g c =
       rests = c.count_silence.ensures.rests;
     }) in
     gone-freed c.args.settings.now c.args.now es e c.args.numbers.now c.count_silence.new.self
-    c.args.link c.args.signs c.give_up.result held freed c.in_default.ensures.chosen
+    silent.link silent.signs c.give_up.result held freed c.in_default.ensures.chosen
     c.give_up.ensures.action c.give_up.ensures.no_link
 
 -- the request goes to the target that was found
 pub returns-clause-action : goal.returns-clause-action
 returns-clause-action g c =
+    let silent = c.args.silent.now in
     λ es held.
-    let e = shown c.args.entry.now in
+    let e = shown silent.pending.now in
     let others = without e.ticket es in
     let new = c.send_new-sent.new.numbers in
-    let freed = was-freed c.args.settings.now c.args.now c.args.link c.args.id c.args.signs es e c.args.numbers.now
+    let freed = was-freed c.args.settings.now c.args.now silent.link silent.id silent.signs es e c.args.numbers.now
     c.give_back.new.self c.count_silence.new.self held c.requires.waits
     (record {
       cursors = c.give_back.ensures.cursors;
@@ -92,14 +95,18 @@ returns-clause-action g c =
     e.ticket c.in-Some.target c.put_off.new.self new c.send_new-sent.result.0
     c.send_new-sent.result.1) same sent in
     forwarded-freed c.args.settings.now c.args.now es e c.args.numbers.now c.count_silence.new.self
-    c.put_off.new.self new c.args.link c.in-Some.target c.args.signs c.send_new-sent.result.0
+    c.put_off.new.self new silent.link c.in-Some.target silent.signs c.send_new-sent.result.0
     c.send_new-sent.result.1 held freed c.in-Some.ensures.chosen c.put_off.ensures of_entry
 
--- the buffers have room for the packet that is forwarded
+-- the buffers have room for the packet that is forwarded, where its Operator-Name is short
 pub send_new-sent-requires-clause-buffers : goal.send_new-sent-requires-clause-buffers
 send_new-sent-requires-clause-buffers g c =
-    let fits = rw c.as_slice.ensures at c.gains_few.ensures in
-    rw c.as_slice.ensures (buffers-smaller _ _ c.args.buffers fits c.requires.buffers)
+    let silent = c.args.silent.now in
+    let e = shown silent.pending.now in
+    rw c.as_slice.ensures
+    (λ short. buffers-smaller _ _ c.args.buffers
+    (forwarded_size-request c.args.settings.now e.request c.in-Some.target c.requires.entry.request short)
+    c.requires.buffers)
 
 -- what is chosen for it changes no lane
 pub send_new-sent-requires-clause-free : goal.send_new-sent-requires-clause-free
@@ -111,9 +118,10 @@ send_new-sent-requires-clause-made g c = rw c.put_off.ensures.lanes c.in-Some.en
 -- what became of it: no server is left
 pub returns-in_default-clause-became : goal.returns-in_default-clause-became
 returns-in_default-clause-became g c =
+    let silent = c.args.silent.now in
     λ es held.
-    let e = shown c.args.entry.now in
-    let freed = was-freed c.args.settings.now c.args.now c.args.link c.args.id c.args.signs es e c.args.numbers.now
+    let e = shown silent.pending.now in
+    let freed = was-freed c.args.settings.now c.args.now silent.link silent.id silent.signs es e c.args.numbers.now
     c.give_back.new.self c.count_silence.new.self held c.requires.waits
     (record {
       cursors = c.give_back.ensures.cursors;
@@ -133,14 +141,15 @@ returns-in_default-clause-became g c =
       rests = c.count_silence.ensures.rests;
     }) in
     became-gone c.args.settings.now c.args.now es e c.args.numbers.now c.count_silence.new.self
-    c.args.link c.args.signs c.give_up.result held freed c.in_default.ensures.chosen c.give_up.ensures.became
+    silent.link silent.signs c.give_up.result held freed c.in_default.ensures.chosen c.give_up.ensures.became
 
 -- or it goes to the target that was found
 pub returns-clause-became : goal.returns-clause-became
 returns-clause-became g c =
+    let silent = c.args.silent.now in
     λ es held.
-    let e = shown c.args.entry.now in
-    let freed = was-freed c.args.settings.now c.args.now c.args.link c.args.id c.args.signs es e c.args.numbers.now
+    let e = shown silent.pending.now in
+    let freed = was-freed c.args.settings.now c.args.now silent.link silent.id silent.signs es e c.args.numbers.now
     c.give_back.new.self c.count_silence.new.self held c.requires.waits
     (record {
       cursors = c.give_back.ensures.cursors;
@@ -160,5 +169,5 @@ returns-clause-became g c =
       rests = c.count_silence.ensures.rests;
     }) in
     became-forwarded c.args.settings.now c.args.now es e c.args.numbers.now c.count_silence.new.self
-    c.args.link c.in-Some.target c.args.signs c.send_new-sent.result.0 c.send_new-sent.result.1 _ _ _ _ _ held freed
+    silent.link c.in-Some.target silent.signs c.send_new-sent.result.0 c.send_new-sent.result.1 _ _ _ _ _ held freed
     c.in-Some.ensures.chosen c.send_new-sent.ensures.standing

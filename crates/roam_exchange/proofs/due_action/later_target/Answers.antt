@@ -11,7 +11,7 @@ use Rattle.roam_realm.specs.Sound.{chosen_link}
 use Rattle.roam_realm.specs.declared.rest.Rest.{Rest}
 use Rattle.roam_realm.specs.declared.service.Service.{Service}
 use Rattle.roam_realm.specs.declared.service.Service.TheVariants as service
-use Rattle.roam_exchange.proofs.DueActionLemmas.{free-target}
+use Rattle.roam_exchange.proofs.FailOverLemmas.{free-target}
 use Rattle.roam_exchange.proofs.due_action.later_target.Goals as goal
 
 -- the links to the servers behind one are the later targets of the octets that a request has

@@ -6,6 +6,14 @@ use Rattle.roam_realm.specs.Rests.{signs_of}
 use Rattle.roam_exchange.specs.Shown.{shown_request}
 use Rattle.roam_exchange.proofs.forwarding.send_new.Goals as goal
 
+-- both buffers have room for the forwarded packet
+pub forward_into-requires-clause-room : goal.forward_into-requires-clause-room
+forward_into-requires-clause-room g c = λ short. (c.requires.buffers short).sent
+
+pub copied_into-forwarded-requires : goal.copied_into-forwarded-requires
+copied_into-forwarded-requires g c =
+    rw (c.as_slice.ensures.value, c.forward_into.ensures.size) (c.requires.buffers c.forward_into.ensures.name).kept
+
 -- the lanes tell the entry that waits on the link with the Identifier that was taken
 pub returns-clause-tells : goal.returns-clause-tells
 returns-clause-tells g c =

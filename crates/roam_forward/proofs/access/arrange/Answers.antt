@@ -3,7 +3,8 @@ use Rattle.roam_wire.specs.Packet.{Packet, attributes_text}
 use Rattle.roam_wire.specs.Reading.{packet_of}
 use Rattle.roam_forward.specs.Forwarded.{added_challenge}
 use Rattle.roam_forward.specs.Private.Arranged.{challenge_of, IsSealStart}
-use Rattle.roam_forward.proofs.ArrangedLemmas.{HoldsAccess, access_held, access_within, movable, carried_front, moved_text, arranged_text}
+use Rattle.roam_forward.proofs.ArrangedLemmas.{HoldsAccess, access_held, access_within, movable}
+use Rattle.roam_forward.proofs.ArrangedPacketLemmas.{carried_front, moved_text, arranged_text}
 use Rattle.roam_forward.proofs.access.arrange.Goals as goal
 
 -- the request ends within the slice

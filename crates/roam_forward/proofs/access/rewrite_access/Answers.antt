@@ -10,7 +10,8 @@ use Rattle.roam_crypto.specs.PacketAnew.{packet_anew, CanBeHiddenAnew}
 use Rattle.roam_forward.specs.Forwarded.{Forwarding}
 use Rattle.roam_forward.specs.Rewriting.{shown}
 use Rattle.roam_forward.proofs.AccessLemmas.{access_unsealed, HasOne-access_unsealed}
-use Rattle.roam_forward.proofs.ArrangedLemmas.{HoldsAccess, access_held, access_within, id_there, sixteen_there, arranged_packet, headed_text, can_be-arranged, from_key, to_key, unsealed_access, sealed_access}
+use Rattle.roam_forward.proofs.ArrangedLemmas.{HoldsAccess, access_held, access_within}
+use Rattle.roam_forward.proofs.ArrangedPacketLemmas.{id_there, sixteen_there, arranged_packet, headed_text, can_be-arranged, from_key, to_key, unsealed_access, sealed_access}
 use Rattle.roam_forward.proofs.access.rewrite_access.Goals as goal
 
 -- the request ends within the slice

@@ -6,7 +6,7 @@ use Rattle.roam_crypto.specs.MessageAuthenticator.{HasAtMostOneMessageAuthentica
 use Rattle.roam_forward.specs.Forwarded.{Forwarding}
 use Rattle.roam_forward.specs.Rewriting.{shown}
 use Rattle.roam_forward.proofs.ForwardedLemmas.{CanBeRewritten, signed_held, ten_behind, unsealed_text, HasAtMostOne-with_ticket, resealed_text, forwarded_text}
-use Rattle.roam_forward.proofs.ArrangedLemmas.{id_there}
+use Rattle.roam_forward.proofs.ArrangedPacketLemmas.{id_there}
 use Rattle.roam_forward.proofs.forwarding.rewrite_signed.Goals as goal
 
 -- the slice has room for the ticket behind the request

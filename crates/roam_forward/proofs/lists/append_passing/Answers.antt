@@ -1,6 +1,6 @@
 use Rattle.std.proofs.Common.{◌≡◌, ◌∙◌, length, vec_len, arith}
 use Rattle.roam_wire.specs.Shown.{shown}
-use Rattle.roam_forward.proofs.WithoutLemmas.{IsPassing-end, IsPassing-more, IsPassing-room}
+use Rattle.roam_forward.proofs.WithoutKindLemmas.{IsPassing-end, IsPassing-more, IsPassing-room}
 use Rattle.roam_forward.proofs.lists.append_passing.Goals as goal
 
 -- there is room for what passes of this attribute

@@ -1,6 +1,6 @@
 use Rattle.std.proofs.Common.{◌≡◌, vec_len, vec_capacity}
 use Rattle.roam_forward.specs.Removal.{removed_by}
-use Rattle.roam_forward.proofs.WithoutLemmas.{IsPassing}
+use Rattle.roam_forward.proofs.WithoutKindLemmas.{IsPassing}
 use Rattle.roam_forward.proofs.lists.append_passing.Given as goal
 
 -- what passes of all but those that are left was appended, and there is room for what passes of these

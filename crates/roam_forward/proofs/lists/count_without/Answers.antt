@@ -1,6 +1,6 @@
 use Rattle.std.proofs.Common.{sym, ◌∙◌}
 use Rattle.roam_forward.specs.Removal.{removed_by}
-use Rattle.roam_forward.proofs.WithoutLemmas.{count-kept, count-named}
+use Rattle.roam_forward.proofs.WithoutKindLemmas.{count-kept, count-named}
 use Rattle.roam_forward.proofs.lists.count_without.Goals as goal
 
 pub returns-then-removes_kind : goal.returns-then-removes_kind

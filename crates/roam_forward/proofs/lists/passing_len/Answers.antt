@@ -1,7 +1,7 @@
 use Rattle.std.proofs.Common.{◌≤◌, ◌+◌, arith}
 use Rattle.roam_wire.specs.Shown.{shown}
 use Rattle.roam_forward.specs.Removal.{removed_by}
-use Rattle.roam_forward.proofs.WithoutLemmas.{IsCounted-end, IsCounted-more, IsCounted-within}
+use Rattle.roam_forward.proofs.WithoutKindLemmas.{IsCounted-end, IsCounted-more, IsCounted-within}
 use Rattle.roam_forward.proofs.lists.passing_len.Goals as goal
 
 -- what is counted, with what passes of this attribute, stays within the packet

@@ -1,5 +1,5 @@
 use Rattle.roam_forward.specs.Removal.{removed_by}
-use Rattle.roam_forward.proofs.WithoutLemmas.{IsCounted}
+use Rattle.roam_forward.proofs.WithoutKindLemmas.{IsCounted}
 use Rattle.roam_forward.proofs.lists.passing_len.Given as goal
 
 -- the octets of what passes of all but those that are left were counted

@@ -8,7 +8,7 @@ use Rattle.roam_forward.specs.Rewriting.{shown}
 use Rattle.roam_forward.specs.Shaped.{HasShortName, Shaping, shaped, shown_shaping}
 use Rattle.roam_forward.proofs.AddedLemmas.{held-padded}
 use Rattle.roam_forward.proofs.BufferLemmas.{HoldsRequest, can_be_rewritten, from_start, from_start-is, packet_of-there, written_back}
-use Rattle.roam_forward.proofs.ShapedLemmas.{CanBeForwarded-shaped, IsPacket-shaped}
+use Rattle.roam_forward.proofs.ShapedWholeLemmas.{CanBeForwarded-shaped, IsPacket-shaped}
 use Rattle.roam_forward.proofs.shaped.forward.Goals as goal
 
 -- what is shorter than the packet that is forwarded for it is a packet
@@ -35,7 +35,7 @@ append_zeros-requires g c =
     let q = c.args.request.now in
     let p : Packet = shaped s q in
     let grown = c.growth-more.ensures.size in
-    let packet : IsPacket p = packet_shaped s q c.growth-more.result c.requires.name c.len_with-len.ensures.octets
+    let packet : IsPacket p = packet_shaped s q c.growth-more.result c.requires.name c.added_to-added.ensures.octets
     c.len_with-len.ensures.packet grown c.requires.can_be_shaped.size in
     omega (
       arith,
@@ -56,7 +56,7 @@ rewrite-requires-clause-rewritable g c =
     let q = c.args.request.now in
     let p : Packet = shaped s q in
     let grown = c.growth-more.ensures.size in
-    let packet : IsPacket p = packet_shaped s q c.growth-more.result c.requires.name c.len_with-len.ensures.octets
+    let packet : IsPacket p = packet_shaped s q c.growth-more.result c.requires.name c.added_to-added.ensures.octets
     c.len_with-len.ensures.packet grown c.requires.can_be_shaped.size in
     let old : List ℕ = c.args.out.now.items in
     let all : List ℕ = c.as_mut_slice.result.now in
@@ -78,7 +78,7 @@ returns-clause-octets g c =
     let q = c.args.request.now in
     let p : Packet = shaped s q in
     let grown = c.growth-more.ensures.size in
-    let packet : IsPacket p = packet_shaped s q c.growth-more.result c.requires.name c.len_with-len.ensures.octets
+    let packet : IsPacket p = packet_shaped s q c.growth-more.result c.requires.name c.added_to-added.ensures.octets
     c.len_with-len.ensures.packet grown c.requires.can_be_shaped.size in
     let old : List ℕ = c.args.out.now.items in
     let all : List ℕ = c.as_mut_slice.result.now in
@@ -107,3 +107,10 @@ returns-clause-octets g c =
     ∙ ap (λ (p : Packet). packet_text (forwarded f p))
     (ap (λ (n : ℕ). packet_of (take n (from_start start all))) as_long
     ∙ packet_of-there p start (forwarded_length p) old text all held))
+
+-- and it is a packet, before the ticket and the Message-Authenticator are added too
+pub returns-clause-packet : goal.returns-clause-packet
+returns-clause-packet g c =
+    packet_shaped (shown_shaping c.args.shaping.now) c.args.request.now c.growth-more.result c.requires.name
+    c.added_to-added.ensures.octets c.len_with-len.ensures.packet c.growth-more.ensures.size
+    c.requires.can_be_shaped.size

@@ -18,11 +18,14 @@ carry_lanes-requires-clause-count g c = c.carry_entries.ensures.keeps.count ∙ 
 
 pub carry_lanes-requires-clause-lanes : goal.carry_lanes-requires-clause-lanes
 carry_lanes-requires-clause-lanes g c =
-    subst (λ (ms : List Mark). AreOwnLanes c.args.old.now ms) (sym c.carry_entries.ensures.marks) c.requires.sound.lanes
+    let old = c.args.change.now.before.now in
+    subst (λ (ms : List Mark). AreOwnLanes old ms) (sym c.carry_entries.ensures.marks) c.requires.sound.lanes
 
 pub carry_lanes-requires-clause-ready : goal.carry_lanes-requires-clause-ready
 carry_lanes-requires-clause-ready g c =
-    still_ready c.args.old.now c.args.new.now c.args.numbers.now c.carry_entries.new.numbers c.args.fresh
+    let old = c.args.change.now.before.now in
+    let new = c.args.change.now.after.now in
+    still_ready old new c.args.numbers.now c.carry_entries.new.numbers c.args.fresh
     c.carry_entries.ensures.keeps c.requires.ready
 
 pub carry_sessions-requires-clause-ledger : goal.carry_sessions-requires-clause-ledger
@@ -32,24 +35,28 @@ carry_sessions-requires-clause-ledger g c =
 
 pub returns-clause-state : goal.returns-clause-state
 returns-clause-state g c =
-    let es = g.E.Entries.entries_of c.args.entries.now c.args.old.now.index in
+    let old = c.args.change.now.before.now in
+    let new = c.args.change.now.after.now in
+    let es = g.E.Entries.entries_of c.args.entries.now old.index in
     let entries = c.carry_entries.ensures in
     let lanes = c.carry_lanes.ensures in
     let sessions = c.carry_sessions.ensures in
-    carried_state c.args.old.now c.args.new.now es c.args.numbers.now c.carry_entries.new.numbers
+    carried_state old new es c.args.numbers.now c.carry_entries.new.numbers
     c.carry_lanes.new.numbers c.carry_sessions.new.numbers entries.keeps lanes.ticket lanes.stream_position
     sessions.lanes sessions.ticket sessions.stream_position lanes.lanes entries.cursors lanes.rests sessions.rests
-    lanes.sessions sessions.sessions (g.E.Entries.entries_of c.carry_entries.new.entries c.args.old.now.index)
+    lanes.sessions sessions.sessions (g.E.Entries.entries_of c.carry_entries.new.entries old.index)
     entries.entries.here
 
 pub returns-clause-sound : goal.returns-clause-sound
 returns-clause-sound g c =
-    let es = g.E.Entries.entries_of c.args.entries.now c.args.old.now.index in
+    let old = c.args.change.now.before.now in
+    let new = c.args.change.now.after.now in
+    let es = g.E.Entries.entries_of c.args.entries.now old.index in
     let entries = c.carry_entries.ensures in
     let lanes = c.carry_lanes.ensures in
     let sessions = c.carry_sessions.ensures in
-    carried_sound c.args.old.now c.args.new.now es c.args.numbers.now c.carry_entries.new.numbers
+    carried_sound old new es c.args.numbers.now c.carry_entries.new.numbers
     c.carry_lanes.new.numbers c.carry_sessions.new.numbers entries.keeps lanes.ticket lanes.stream_position
     sessions.lanes sessions.ticket sessions.stream_position lanes.lanes c.requires.servers c.requires.sound
     entries.order entries.tells sessions.limit
-    (g.E.Entries.entries_of c.carry_entries.new.entries c.args.old.now.index) entries.entries.here
+    (g.E.Entries.entries_of c.carry_entries.new.entries old.index) entries.entries.here

@@ -1,4 +1,4 @@
-use Rattle.roam_reply.proofs.EveryCodeLemmas.{IsSignedReply-returned, IsWellSealed-returned, HasOne-returned, first-returned}
+use Rattle.roam_reply.proofs.SealedReplyLemmas.{IsSignedReply-returned, IsWellSealed-returned, HasOne-returned, first-returned}
 use Rattle.roam_reply.proofs.laws.returned_authenticators.Goals as goal
 
 pub returns-clause-signed : goal.returns-clause-signed

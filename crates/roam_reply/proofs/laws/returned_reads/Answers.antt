@@ -1,6 +1,6 @@
 use Rattle.roam_wire.proofs.LawLemmas.{ReadsAs-packet_text}
 use Rattle.roam_reply.specs.Returned.{returned}
-use Rattle.roam_reply.proofs.EveryCodeLemmas.{IsPacket-returned, packet_length-returned}
+use Rattle.roam_reply.proofs.SealedReplyLemmas.{IsPacket-returned, packet_length-returned}
 use Rattle.roam_reply.proofs.laws.returned_reads.Goals as goal
 
 pub returns-clause-packet : goal.returns-clause-packet

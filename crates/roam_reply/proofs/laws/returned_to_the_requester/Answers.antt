@@ -1,4 +1,4 @@
-use Rattle.roam_reply.proofs.EveryCodeLemmas.{code-returned, id-returned, proxy_states-returned}
+use Rattle.roam_reply.proofs.SealedReplyLemmas.{code-returned, id-returned, proxy_states-returned}
 use Rattle.roam_reply.proofs.laws.returned_to_the_requester.Goals as goal
 
 pub returns-clause-code : goal.returns-clause-code

@@ -4,7 +4,7 @@ use Rattle.roam_wire.specs.declared.removed_attribute.RemovedAttribute.{RemovedA
 use Rattle.roam_forward.specs.Removal.{removed_by}
 use Rattle.roam_reply.specs.Returned.{Returning, named, own_of, passing, removed_of, returned}
 use Rattle.roam_reply.specs.Shown.{shown}
-use Rattle.roam_reply.proofs.PassingLemmas.{AtMostOne-named, AtMostOne-passing, IsPacket-named, IsPacket-passing}
+use Rattle.roam_reply.proofs.PassingReplyLemmas.{AtMostOne-named, AtMostOne-passing, IsPacket-named, IsPacket-passing}
 use Rattle.roam_reply.proofs.PlainLemmas.{behind_plain}
 use Rattle.roam_reply.proofs.returning.back.Goals as goal
 

@@ -1,4 +1,5 @@
-use Rattle.roam_rules.proofs.SilenceLemmas.{choice-is_never_worse, ends-have_own_places, rests-only_when_silent}
+use Rattle.roam_rules.proofs.SilenceLemmas.{ends-have_own_places}
+use Rattle.roam_rules.proofs.SilenceLawLemmas.{choice-is_never_worse, rests-only_when_silent}
 use Rattle.roam_rules.proofs.laws.rests.Goals as goal
 
 pub returns-clause-places : goal.returns-clause-places

@@ -10,7 +10,7 @@ use Rattle.roam_shard.proofs.following.all_over.Goals as goal
 pub loop-realm-init : goal.loop-realm-init
 loop-realm-init g c =
     let iter = c.into_iter-realm-iterator.ensures.into_iter_gives in
-    let realms = c.args.fresh.realms in
+    let realms = c.args.realms in
     record {
       over = rw c.requires.none_yet (none_over (shown c.args.change.from.now) (shown c.args.change.to.now)
           c.args.change.shard c.args.before.now.items (entries_in c.args.entries.now) realms.items);
@@ -19,7 +19,7 @@ loop-realm-init g c =
           ∙ ap (slice_get realms.items) e);
       left = iter.1 ∙ realms.ok.0 ∙ ap length (sym iter.0);
       count = (let n = ap length iter.0 in omega (arith, n));
-      len = c.args.fresh.numbers.ok.0 ∙ ap length c.requires.none_yet;
+      len = c.args.numbers.ok.0 ∙ ap length c.requires.none_yet;
       room = c.requires.room;
     }
 
@@ -36,11 +36,11 @@ go_over-after-requires-clause-within g c =
 
 pub go_over-after-requires-clause-can : goal.go_over-after-requires-clause-can
 go_over-after-requires-clause-can g c = λ goes.
-    let made = next_made c.args.fresh.realms.items (into_iter_items c.loop-realm.realm-iterator) c.loop-realm.index
+    let made = next_made c.args.realms.items (into_iter_items c.loop-realm.realm-iterator) c.loop-realm.index
     c.in-Some.realm c.loop-realm.invariant.behind (ap (λ (l : List _). slice_get l 0) c.in-Some.ensures.steps.0) in
     can_still (shown c.args.change.from.now) (shown c.args.change.to.now) c.args.change.shard c.args.before.now.items
     c.loop-realm.before.items (entries_in c.args.entries.now) (entries_in c.loop-realm.entries)
-    c.args.fresh.realms.items c.loop-realm.numbers.items c.loop-realm.index c.in-Some.realm
+    c.args.realms.items c.loop-realm.numbers.items c.loop-realm.index c.in-Some.realm
     c.loop-realm.invariant.over c.requires.can made goes
 
 pub push_reserved-requires : goal.push_reserved-requires
@@ -56,21 +56,21 @@ loop-realm-preserved g c =
     let steps = c.in-Some.ensures.steps in
     let short = ap length steps.0 in
     let one = c.go_over-after.ensures in
-    let made = next_made c.args.fresh.realms.items (into_iter_items c.loop-realm.realm-iterator) k c.in-Some.realm
+    let made = next_made c.args.realms.items (into_iter_items c.loop-realm.realm-iterator) k c.in-Some.realm
     inv.behind (ap (λ (l : List _). slice_get l 0) steps.0) in
     record {
       over = rw c.push_reserved.ensures.items
           (one_over (shown c.args.change.from.now) (shown c.args.change.to.now) c.args.change.shard
           c.args.before.now.items c.loop-realm.before.items c.go_over-after.new.before.items
           (entries_in c.args.entries.now)
-          (entries_in c.loop-realm.entries) (entries_in c.go_over-after.new.entries) c.args.fresh.realms.items
+          (entries_in c.loop-realm.entries) (entries_in c.go_over-after.new.entries) c.args.realms.items
           c.loop-realm.numbers.items k c.in-Some.realm c.go_over-after.result inv.over made one.over one.others
           one.before one.before_count);
       realms = one.realms ∙ inv.realms;
       behind = λ j. (
           let e : k + suc j ≡ k + 1 + j = omega arith in
           ap (λ (l : List _). slice_get l (suc j)) (sym steps.0) ∙ inv.behind (suc j)
-          ∙ ap (slice_get c.args.fresh.realms.items) e);
+          ∙ ap (slice_get c.args.realms.items) e);
       left = omega (arith, short, steps.1, inv.left);
       count = omega (arith, short, inv.count);
       len = (let len = c.push_reserved.ensures.len in omega (arith, len, inv.len));
@@ -84,5 +84,5 @@ returns-clause-over g c =
     ∙ c.in-None.ensures.steps.0 in
     all_over (shown c.args.change.from.now) (shown c.args.change.to.now) c.args.change.shard c.args.before.now.items
     c.loop-realm.before.items (entries_in c.args.entries.now) (entries_in c.loop-realm.entries)
-    c.args.fresh.realms.items c.loop-realm.numbers.items c.loop-realm.index inv.over
+    c.args.realms.items c.loop-realm.numbers.items c.loop-realm.index inv.over
     (omega (arith, none, inv.count))

@@ -7,7 +7,7 @@ use Rattle.roam_tables.specs.Stands.{entries_in}
 use Rattle.roam_realm.specs.RealmConfig.{RealmConfig}
 use Rattle.roam_shard.proofs.FollowLemmas.{here_within}
 use Rattle.roam_shard.proofs.OverLemmas.{distinct_in, gone_by}
-use Rattle.roam_shard.proofs.ShardLemmas.{as_many}
+use Rattle.roam_shard.proofs.StatesLemmas.{as_many}
 use Rattle.roam_shard.proofs.following.carried.Goals as goal
 
 pub new-old-requires : goal.new-old-requires

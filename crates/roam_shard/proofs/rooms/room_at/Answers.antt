@@ -8,7 +8,7 @@ use Rattle.roam_shard.proofs.rooms.room_at.Goals as goal
 pub returns-clause-room : goal.returns-clause-room
 returns-clause-room g c = record {
   part = room_wanted c.args.takes_part
-      (only_done_due c.args.now (entries_in c.args.entries.now c.args.realm))
+      (only_done_due c.args.terms.now (entries_in c.args.entries.now c.args.realm))
       c.if-not-takes_part.false
       (sym c.only_done_due.ensures ∙ c.if-only_done_due.false);
   fits = c.in_ok-room.ensures.room;

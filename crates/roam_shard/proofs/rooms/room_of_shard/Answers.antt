@@ -8,7 +8,7 @@ use Rattle.roam_exchange.specs.Rooms.{only_done_due}
 use Rattle.roam_core.specs.ShardRooms.{IsRealmRoom}
 use Rattle.roam_shard.specs.ShardView.{shown_opening, states_in}
 use Rattle.roam_shard.proofs.RoomLemmas.{all-gathered, one-more-gathered, room_seen}
-use Rattle.roam_shard.proofs.ShardLemmas.{length-states}
+use Rattle.roam_shard.proofs.StatesLemmas.{length-states}
 use Rattle.roam_shard.proofs.rooms.room_of_shard.Goals as goal
 
 pub overflow_cast-realm : goal.overflow_cast-realm
@@ -34,15 +34,15 @@ loop-realm-preserved g c =
     let own = c.index-numbers-realm.result in
     let at = get-read numbers realm own c.loop-realm-test.true c.index-numbers-realm.is in
     let is = c.requires.own realm own at in
-    let given = subst (λ b. IsRealmRoom c.args.now
-    (b && not (only_done_due c.args.now (entries_in entries realm))) (entries_in entries realm) room)
+    let given = subst (λ b. IsRealmRoom c.args.terms.now
+    (b && not (only_done_due c.args.terms.now (entries_in entries realm))) (entries_in entries realm) room)
     c.is_some.ensures c.in_ok-room.ensures.room in
-    let seen = room_seen o c.args.now realm (entries_in entries) numbers own room at is given in
+    let seen = room_seen o c.args.terms.now realm (entries_in entries) numbers own room at is given in
     let count = length-states o (entries_in entries) 0 numbers in
     let here : realm < length (states_in o entries numbers) =
     omega (arith, c.loop-realm-test.true, count) in
     rw c.in_ok-push.ensures.items
-    (one-more-gathered c.args.lines o.config c.args.now o.shard realm (states_in o entries numbers)
+    (one-more-gathered c.args.terms.lines o.config c.args.terms.now o.shard realm (states_in o entries numbers)
     c.loop-realm.rooms.items c.loop-realm.most _ room
     c.loop-realm.invariant here seen c.in_ok-room.ensures.lines c.in_ok-most.ensures)
 
@@ -52,7 +52,7 @@ returns-clause-rooms g c =
     let numbers = c.args.numbers.now in
     let entries = c.args.entries.now in
     let count = length-states o (entries_in entries) 0 numbers in
-    all-gathered c.args.lines o.config c.args.now o.shard c.loop-realm.realm (states_in o entries numbers)
+    all-gathered c.args.terms.lines o.config c.args.terms.now o.shard c.loop-realm.realm (states_in o entries numbers)
     c.loop-realm.rooms.items c.loop-realm.most c.loop-realm.invariant
     (omega (arith, count, c.loop-realm-test.false, c.loop-realm.auto.realm-end))
 

@@ -5,5 +5,5 @@ use Rattle.roam_shard.proofs.rooms.room_of_shard.Given as goal
 
 abbrev pub invariant-loop-realm : goal.invariant-loop-realm
 invariant-loop-realm g l =
-    AreGathered l.lines (shown l.opening.config.now) l.now l.opening.shard l.realm
+    AreGathered l.terms.lines (shown l.opening.config.now) l.terms.now l.opening.shard l.realm
     (states_in (shown_opening l.opening) l.entries l.numbers) l.rooms.items l.most

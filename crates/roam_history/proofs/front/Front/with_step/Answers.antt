@@ -15,7 +15,7 @@ overflow_add-result-2 g c =
 pub invariant_of-result : goal.invariant_of-result
 invariant_of-result g c =
     let log = c.self.inside.seen.log in
-    let last = last_of c.args.traced.now.events (shown_answer c.args.answer.now) in
+    let last = last_of c.args.last.now.traced.now.events (shown_answer c.args.last.now.answer.now) in
     let is = c.in_ok-seen.ensures.log in (
       omega (arith, c.self.invariant.0, ap length is, length-append log (last ∷ [])),
       omega (

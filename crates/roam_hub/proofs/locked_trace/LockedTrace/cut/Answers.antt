@@ -8,7 +8,8 @@ use Rattle.roam_history.specs.Fronts.{FrontView}
 use Rattle.roam_history.specs.HubOpening.{opening_at}
 use Rattle.roam_history.proofs.EntryLemmas.{closed-stored, is_whole_closed}
 use Rattle.roam_hub.specs.Keeping.{KeptView}
-use Rattle.roam_hub.proofs.KeptLemmas.{events_kept, whole_end, whole_history, whole_steps}
+use Rattle.roam_hub.proofs.KeptLemmas.{events_kept, whole_end, whole_history}
+use Rattle.roam_hub.proofs.RecordedLemmas.{whole_steps}
 use Rattle.roam_hub.proofs.locked_trace.LockedTrace.cut.Goals as goal
 
 pub returns-clause-its_shard : goal.returns-clause-its_shard

@@ -5,7 +5,7 @@ use Rattle.roam_history.specs.Fronts.{FrontView}
 use Rattle.roam_history.specs.Seats.{SeatView, front_of, having_seen}
 use Rattle.roam_history.specs.Calls.{IsLook, Sees}
 use Rattle.roam_hub.specs.Keeping.{KeptView}
-use Rattle.roam_hub.proofs.KeptLemmas.{look}
+use Rattle.roam_hub.proofs.RecordedLemmas.{look}
 use Rattle.roam_hub.proofs.locked_trace.LockedTrace.is_due.Given.{Over}
 use Rattle.roam_hub.proofs.locked_trace.LockedTrace.is_due.Goals as goal
 

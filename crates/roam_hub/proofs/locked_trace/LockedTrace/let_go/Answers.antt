@@ -7,7 +7,8 @@ use Rattle.roam_history.specs.Fronts.{FrontView}
 use Rattle.roam_history.specs.Seats.{after_letting_go, front_of}
 use Rattle.roam_history.specs.Calls.{AreGone, Sees}
 use Rattle.roam_hub.specs.Keeping.{IsKept, KeptView}
-use Rattle.roam_hub.proofs.KeptLemmas.{gone_of_shard, kept_gone}
+use Rattle.roam_hub.proofs.KeptLemmas.{kept_gone}
+use Rattle.roam_hub.proofs.RecordedLemmas.{gone_of_shard}
 use Rattle.roam_hub.proofs.locked_trace.LockedTrace.let_go.Given.{Over}
 use Rattle.roam_hub.proofs.locked_trace.LockedTrace.let_go.Goals as goal
 

@@ -11,7 +11,8 @@ use Rattle.roam_history.proofs.EntryLemmas.{last-push}
 use Rattle.roam_history.specs.Fronts.{FrontView}
 use Rattle.roam_history.specs.Seats.{SeatView, after_call, front_of, having_seen}
 use Rattle.roam_hub.specs.Keeping.{KeptView}
-use Rattle.roam_hub.proofs.KeptLemmas.{Recorded, events_kept, full, has_happened, recorded, sees_whole}
+use Rattle.roam_hub.proofs.KeptLemmas.{events_kept, sees_whole}
+use Rattle.roam_hub.proofs.RecordedLemmas.{Recorded, full, has_happened, recorded}
 use Rattle.roam_hub.proofs.RefusedLemmas.{is_there, only_full}
 use Rattle.roam_hub.proofs.locked_trace.LockedTrace.take.Given.{Over}
 use Rattle.roam_hub.proofs.locked_trace.LockedTrace.take.Goals as goal

@@ -11,7 +11,8 @@ use Rattle.roam_history.proofs.EntryLemmas.{last-push}
 use Rattle.roam_history.specs.Fronts.{FrontView}
 use Rattle.roam_history.specs.Seats.{SeatView, after_call, front_of, having_seen}
 use Rattle.roam_hub.specs.Keeping.{KeptView}
-use Rattle.roam_hub.proofs.KeptLemmas.{Recorded, events_kept, full, has_happened, recorded, whole_end}
+use Rattle.roam_hub.proofs.KeptLemmas.{events_kept, whole_end}
+use Rattle.roam_hub.proofs.RecordedLemmas.{Recorded, full, has_happened, recorded}
 use Rattle.roam_hub.proofs.RefusedLemmas.{only_full}
 use Rattle.roam_history.specs.declared.fault.HubFault.TheVariants as hub
 use Rattle.roam_shard.specs.declared.fault.TraceFault.TheVariants as trace

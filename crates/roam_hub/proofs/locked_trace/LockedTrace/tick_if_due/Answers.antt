@@ -12,7 +12,7 @@ use Rattle.roam_history.specs.Seats.{SeatView, front_of, having_seen}
 use Rattle.roam_hub.specs.Keeping.{KeptView}
 use Rattle.roam_core.specs.Events.{ticks}
 use Rattle.roam_history.specs.Calls.{answered_step}
-use Rattle.roam_hub.proofs.KeptLemmas.{due_call, look}
+use Rattle.roam_hub.proofs.RecordedLemmas.{due_call, look}
 use Rattle.roam_hub.proofs.locked_trace.LockedTrace.tick_if_due.Goals as goal
 
 pub returns-in-None-clause-tick : goal.returns-in-None-clause-tick

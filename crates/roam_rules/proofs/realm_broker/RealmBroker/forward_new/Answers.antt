@@ -21,6 +21,10 @@ send_new-sent-requires-clause-free g c =
     c.args.link kept.list kept.sound.lanes_tell c.requires.plan.link in
     ap is_some (sym next) ∙ c.requires.plan.free
 
+-- the buffers have the size of the forwarded packet
+pub send_new-sent-requires-clause-buffers : goal.send_new-sent-requires-clause-buffers
+send_new-sent-requires-clause-buffers g c = λ _. c.requires.buffers
+
 -- neither the ticket nor the key is held
 pub insert_entry-requires-clause-new : goal.insert_entry-requires-clause-new
 insert_entry-requires-clause-new g c =

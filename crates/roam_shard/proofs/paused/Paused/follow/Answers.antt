@@ -4,7 +4,8 @@ use Rattle.std.proofs.lemmas.List.{length-map}
 use Rattle.roam_conf.specs.Parts.{shown_realm}
 use Rattle.roam_conf.specs.Shown.{shown}
 use Rattle.roam_tables.specs.Stands.{entries_in}
-use Rattle.roam_shard.proofs.FollowLemmas.{AreReady, cleared_to}
+use Rattle.roam_shard.proofs.FollowLemmas.{cleared_to}
+use Rattle.roam_shard.proofs.ReadyLemmas.{AreReady}
 use Rattle.roam_shard.proofs.FollowedLemmas.{all_follow, can_go, followed_shard, within_before}
 use Rattle.roam_shard.proofs.paused.Paused.follow.Goals as goal
 
@@ -18,6 +19,10 @@ all_over-requires-clause-room g c =
     let realms = c.args.new.now.realms in
     let room = c.requires.ready.room in
     omega (arith, room, length-map realms.items shown_realm, realms.ok.0)
+
+-- the peers whose tables are other ones were looked for
+pub all_over-requires-clause-changed : goal.all_over-requires-clause-changed
+all_over-requires-clause-changed g c = rw c.as_slice.ensures.value c.requires.ready.changed
 
 pub all_over-requires-clause-within : goal.all_over-requires-clause-within
 all_over-requires-clause-within g c =

@@ -5,7 +5,8 @@ use Rattle.roam_conf.specs.Parts.{shown_realm}
 use Rattle.roam_conf.specs.Shown.{shown}
 use Rattle.roam_tables.specs.Stands.{RealmView}
 use Rattle.roam_shard.specs.Pausing.{IsReadyAt}
-use Rattle.roam_shard.proofs.FollowLemmas.{more_realms_still, none_ready, one_ready, still_then}
+use Rattle.roam_shard.proofs.FollowLemmas.{more_realms_still, still_then}
+use Rattle.roam_shard.proofs.ReadyLemmas.{none_ready, one_ready}
 use Rattle.roam_shard.proofs.paused.Paused.reserve.Goals as goal
 
 pub returns-in_err-add_realms-clause-still : goal.returns-in_err-add_realms-clause-still

@@ -1,7 +1,7 @@
 use Rattle.std.proofs.Common.{◌≡◌, ◌≤◌, length, vec_len, vec_capacity}
 use Rattle.roam_conf.specs.Shown.{shown}
 use Rattle.roam_shard.specs.Pausing.{StandsStill}
-use Rattle.roam_shard.proofs.FollowLemmas.{AreReady}
+use Rattle.roam_shard.proofs.ReadyLemmas.{AreReady}
 use Rattle.roam_shard.proofs.paused.Paused.reserve.Given as goal
 
 abbrev pub invariant-loop-realm : goal.invariant-loop-realm

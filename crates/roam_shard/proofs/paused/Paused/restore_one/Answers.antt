@@ -12,7 +12,7 @@ use Rattle.roam_realm.specs.Saving.{taken_up}
 use Rattle.roam_sessions.specs.ShownLedgers.{shown_session}
 use Rattle.roam_realm.proofs.WrittenLemmas.{on_one}
 use Rattle.roam_shard.proofs.RestoredLemmas.{restored_shard}
-use Rattle.roam_shard.proofs.ShardLemmas.{length-states}
+use Rattle.roam_shard.proofs.StatesLemmas.{length-states}
 use Rattle.roam_shard.proofs.TakenUpLemmas.{no-numbers, numbers-taken, past-taken}
 use Rattle.roam_shard.proofs.paused.Paused.restore_one.Goals as goal
 

@@ -5,7 +5,8 @@ use Rattle.roam_realm.specs.RealmState.{RealmState}
 use Rattle.roam_core.specs.Events.{is_in_shard}
 use Rattle.roam_core.specs.ManyRealms.{state_at}
 use Rattle.roam_shard.specs.ShardView.{ShardView, shown_opening, states_in}
-use Rattle.roam_shard.proofs.ShardLemmas.{numbers_there, state-seen}
+use Rattle.roam_shard.proofs.ShardLemmas.{numbers_there}
+use Rattle.roam_shard.proofs.StatesLemmas.{state-seen}
 use Rattle.roam_shard.proofs.shard.Shard.start.Goals as goal
 
 -- the realm is one of the shard's, so its numbers are there

@@ -6,7 +6,7 @@ use Rattle.roam_conf.specs.Shown.{shown}
 use Rattle.roam_admission.specs.Admission.{admission}
 use Rattle.roam_admission.specs.Shown.{WantsMemory, shown_arrival}
 use Rattle.roam_core.specs.BrokerView.{BrokerView}
-use Rattle.roam_shard.proofs.AcrossLemmas.{whole_across}
+use Rattle.roam_shard.proofs.AcrossOpenLemmas.{whole_across}
 use Rattle.roam_shard.proofs.LostLemmas.{refusal_gives, refusal_of, refusal_wants}
 use Rattle.roam_shard.proofs.shards.Shards.arrive.Goals as goal
 

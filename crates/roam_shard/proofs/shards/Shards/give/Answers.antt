@@ -16,7 +16,8 @@ use Rattle.roam_shard.specs.Across.{all_states}
 use Rattle.roam_conf.specs.declared.exchange_lines.ExchangeLines.TheVariants as lines
 use Rattle.roam_core.specs.HappeningsTo.{job_happening}
 use Rattle.roam_shard.specs.Turns.{GivesTurn}
-use Rattle.roam_shard.proofs.AcrossLemmas.{gives_across, job_length, still_sharded}
+use Rattle.roam_shard.proofs.AcrossLemmas.{gives_across, still_sharded}
+use Rattle.roam_shard.proofs.AcrossStateLemmas.{job_length}
 use Rattle.roam_shard.proofs.shards.Shards.give.Goals as goal
 
 -- the shard has the broker's configuration

@@ -1,6 +1,6 @@
 use Rattle.std.proofs.Common.{arith}
 use Rattle.roam_conf.specs.Shown.{shown}
-use Rattle.roam_shard.proofs.AcrossLemmas.{all_opened, all_sharded, no_shards, one_shard_more}
+use Rattle.roam_shard.proofs.AcrossOpenLemmas.{all_opened, all_sharded, no_shards, one_shard_more}
 use Rattle.roam_shard.proofs.shards.Shards.new.Goals as goal
 
 pub loop-shard-init : goal.loop-shard-init

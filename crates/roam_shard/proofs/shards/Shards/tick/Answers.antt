@@ -1,7 +1,7 @@
 use Rattle.std.proofs.Common.{ap, arith}
 use Rattle.roam_conf.specs.Shown.{shown}
 use Rattle.roam_core.specs.BrokerView.{BrokerView}
-use Rattle.roam_shard.proofs.AcrossLemmas.{whole_across}
+use Rattle.roam_shard.proofs.AcrossOpenLemmas.{whole_across}
 use Rattle.roam_shard.proofs.TickLemmas.{no_such_shard}
 use Rattle.roam_shard.proofs.shards.Shards.tick.Goals as goal
 

@@ -12,7 +12,9 @@ use Rattle.roam_shard.specs.Across.{all_states}
 use Rattle.roam_conf.specs.declared.exchange_lines.ExchangeLines.TheVariants as lines
 use Rattle.roam_core.specs.HappeningsTo.{shard_happening}
 use Rattle.roam_shard.specs.Turns.{GivesTurn}
-use Rattle.roam_shard.proofs.AcrossLemmas.{done_across, first_fails, still_sharded, tick_length, ticks_across}
+use Rattle.roam_shard.proofs.AcrossLemmas.{done_across, still_sharded, ticks_across}
+use Rattle.roam_shard.proofs.AcrossStateLemmas.{tick_length}
+use Rattle.roam_shard.proofs.AcrossOpenLemmas.{first_fails}
 use Rattle.roam_shard.proofs.shards.Shards.tick_shard.Goals as goal
 
 pub invariant_of-self : goal.invariant_of-self
