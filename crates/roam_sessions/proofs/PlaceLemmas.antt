@@ -1,0 +1,132 @@
+-- The rows of a session table at their places: what a ticket has where one comes in, goes, or gets other neighbours.
+use Rattle.std.proofs.Common.{◌≡◌, ◌≢◌, ℕ, ◌-◌, ◌<◌, ◌≤◌, true, false, length, Option, Some, None, is_some, cond, refl, sym, ap, ◌∙◌, subst, inl, inr, arith}
+use Rattle.std.specs.Prelude.{◌==◌, min, IsSome, option_and_then, option_map}
+use Rattle.std.proofs.lemmas.Bool.{cases_Bool, cases_eq}
+use Rattle.std.proofs.lemmas.Bool.Decides.{nat_tests}
+use Rattle.std.proofs.lemmas.List.{get_or_past}
+use Rattle.std.proofs.lemmas.List.Sums.{sum_by-set}
+use Rattle.slab.specs.Slab.{Slab, Updates, get, slab_len, with_value}
+use Rattle.slab.proofs.SlabLemmas.{ContainsKey-within, Updates-with_value}
+use Rattle.roam_wire.specs.Numbered.{PutsAt}
+use Rattle.roam_sessions.specs.Maps.{SessionsStay, if_ticket, linked_row, linked_session, links_at, session_of}
+use Rattle.roam_sessions.specs.Private.Places.{place_of}
+use Rattle.roam_sessions.specs.declared.links.Links.{Links}
+use Rattle.roam_sessions.specs.declared.session_map.LinkedSession.{LinkedSession}
+
+-- what is seen of what each number has
+pub puts-seen : {X Y : Type 0} (seen : X → Y) (I J : ℕ → Option X) (t : ℕ) (w : Option X) → PutsAt I J t w
+    → PutsAt (λ u. option_map seen (I u)) (λ u. option_map seen (J u)) t (option_map seen w)
+puts-seen seen I J t w puts = record {
+  changed = ap (option_map seen) puts.changed;
+  others = λ u ne. ap (option_map seen) (puts.others u ne);
+}
+
+module _ {A : Type 0} where
+  -- whatever row is there has this ticket
+  abbrev pub IsOf : ℕ → Option (LinkedSession A) → Type 0
+  IsOf t o = (row : LinkedSession A) → o ≡ Some row → row.ticket ≡ t
+
+  pub own-row : (o : Option (LinkedSession A)) (t : ℕ) → IsOf t o → option_and_then (if_ticket t) o ≡ o
+  own-row None t of = refl
+  own-row (Some row) t of =
+      let is : row.ticket ≡ t = of row refl in
+      let same : (row.ticket == t) ≡ true = grind (arith, nat_tests) in
+      rw same refl
+
+  pub no-row : (o : Option (LinkedSession A)) (t u : ℕ) → IsOf t o → u ≢ t → option_and_then (if_ticket u) o ≡ None
+  no-row None t u of ne = refl
+  no-row (Some row) t u of ne =
+      let is : row.ticket ≡ t = of row refl in
+      let apart : (row.ticket == u) ≡ false = grind (arith, nat_tests) in
+      rw apart refl
+
+  pub free-of : (o : Option (LinkedSession A)) (t : ℕ) → o ≡ None → IsOf t o
+  free-of o t none row is = absurd (cc (none, is))
+
+  pub one-of : (o : Option (LinkedSession A)) (x : LinkedSession A) (t : ℕ) → o ≡ Some x → x.ticket ≡ t → IsOf t o
+  one-of o x t at own row is =
+      let both : Some x ≡ Some row = sym at ∙ is in
+      let one : x ≡ row = cc both in
+      ap (λ (r : LinkedSession A). r.ticket) (sym one) ∙ own
+
+  pub held-of : (o : Option (LinkedSession A)) (t : ℕ) → IsSome (option_and_then (if_ticket t) o) → IsOf t o
+  held-of None t held = absurd (cc held)
+  held-of (Some x) t held = elim (cases_Bool (x.ticket == t)) [
+    | inl same ↦ (
+        let own : x.ticket ≡ t = grind (arith, nat_tests) in
+        one-of (Some x) x t refl own)
+    | inr apart ↦ absurd (
+        let none : IsSome None = rw apart at held in
+        cc none)
+  ]
+
+  module _ (m n : Slab (LinkedSession A)) (t : ℕ) (w : Option (LinkedSession A)) where
+    -- the place that a ticket names has another row, or none
+    pub row-set : IsOf t (get m (place_of t)) → IsOf t w → Updates m n (place_of t) w
+        → PutsAt (linked_row m) (linked_row n) t w
+    row-set was is updates = record {
+      changed = ap (λ (o : Option (LinkedSession A)). option_and_then (if_ticket t) o) updates.changed ∙ own-row w t is;
+      others = λ u ne. elim (cases_eq (place_of u) (place_of t)) [
+        | inl same ↦ (
+            let now : linked_row n u ≡ None = ap (λ (k : ℕ). option_and_then (if_ticket u) (get n k)) same
+            ∙ ap (λ (o : Option (LinkedSession A)). option_and_then (if_ticket u) o) updates.changed
+            ∙ no-row w t u is ne in
+            let before : linked_row m u ≡ None = ap (λ (k : ℕ). option_and_then (if_ticket u) (get m k)) same
+            ∙ no-row (get m (place_of t)) t u was ne in
+            now ∙ sym before)
+        | inr differs ↦ ap (λ (o : Option (LinkedSession A)). option_and_then (if_ticket u) o)
+            (updates.others (place_of u) differs)
+      ];
+    }
+
+    pub sessions-put : PutsAt (linked_row m) (linked_row n) t w
+        → PutsAt (session_of m) (session_of n) t (option_map linked_session w)
+    sessions-put puts = puts-seen linked_session (linked_row m) (linked_row n) t w puts
+
+    pub links-set : PutsAt (linked_row m) (linked_row n) t w
+        → PutsAt (links_at m) (links_at n) t (option_map (λ (s : LinkedSession A). s.links) w)
+    links-set puts = puts-seen (λ (s : LinkedSession A). s.links) (linked_row m) (linked_row n) t w puts
+
+  -- no ticket names a place behind all others
+  pub past : (m : Slab (LinkedSession A)) (t : ℕ) → length m.slots ≤ place_of t → session_of m t ≡ None
+  past m t le = ap (λ (o : Option (LinkedSession A)). option_map linked_session (option_and_then (if_ticket t) o))
+      (get_or_past m.slots (place_of t) None le)
+
+  -- the row of a ticket gets other neighbours
+  module _ (m : Slab (LinkedSession A)) (t : ℕ) (row : LinkedSession A) (l : Links) where
+    abbrev relinked : LinkedSession A
+    relinked = record { ticket = row.ticket; session = row.session; links = l }
+
+    abbrev after : Slab (LinkedSession A)
+    after = with_value m (place_of t) relinked
+
+    row-written : get m (place_of t) ≡ Some row → row.ticket ≡ t
+        → PutsAt (linked_row m) (linked_row after) t (Some relinked)
+    row-written at own =
+        row-set m after t (Some relinked) (one-of (get m (place_of t)) row t at own)
+        (one-of (Some relinked) relinked t refl own)
+        (Updates-with_value m (place_of t) relinked (rw at refl))
+
+    pub links-written : get m (place_of t) ≡ Some row → row.ticket ≡ t
+        → PutsAt (links_at m) (links_at after) t (Some l)
+    links-written at own = links-set m after t (Some relinked) (row-written at own)
+
+    pub stay-written : get m (place_of t) ≡ Some row → row.ticket ≡ t → SessionsStay m after
+    stay-written at own =
+        let puts = row-written at own in
+        let here : linked_row m t ≡ Some row =
+        ap (λ (o : Option (LinkedSession A)). option_and_then (if_ticket t) o) at
+        ∙ own-row (Some row) t (one-of (Some row) row t refl own) in
+        let counted = sum_by-set (λ (o : Option (LinkedSession A)). cond (is_some o) 1 0) m.slots (place_of t)
+        (Some relinked) None (ContainsKey-within m (place_of t) (rw at refl)) in
+        let one = ap (λ (o : Option (LinkedSession A)). cond (is_some o) 1 0) at in
+        let len : slab_len after ≡ slab_len m = omega (arith, counted, one) in
+        record {
+          sessions = λ u. elim (cases_eq u t) [
+            | inl is ↦ ap (session_of after) is ∙ ap (option_map linked_session) puts.changed
+                ∙ sym (ap (session_of m) is ∙ ap (option_map linked_session) here)
+            | inr ne ↦ ap (option_map linked_session) (puts.others u ne)
+          ];
+          len = len;
+          room = ap (λ (k : ℕ). min 1 (min (1048576 - m.vacant_key) (m.capacity - k))) len;
+        }
