@@ -130,3 +130,15 @@ module _ {A : Type 0} where
           len = len;
           room = ap (λ (k : ℕ). min 1 (min (1048576 - m.vacant_key) (m.capacity - k))) len;
         }
+
+-- something is there, of which something is seen, and which has a ticket
+pub seen-some : {X Y : Type 0} (seen : X → Y) (o : Option X) → IsSome (option_map seen o) → IsSome o
+seen-some seen None held = absurd (cc held)
+seen-some seen (Some x) held = refl
+
+pub there-some : {A : Type 0} (o : Option (LinkedSession A)) (t : ℕ) → IsSome (option_and_then (if_ticket t) o) → IsSome o
+there-some None t held = absurd (cc held)
+there-some (Some x) t held = refl
+
+pub none-of : {A : Type 0} (t : ℕ) → IsOf {A} t None
+none-of t row is = absurd (cc is)

@@ -14,7 +14,7 @@ fn below(ticket: Option<u64>, end: u64) -> usize
     ensures { result ≡ below end ticket }
 {
     match ticket {
-        Some(ticket) => { if ticket < end { 1 } else { 0 } }
+        Some(number) => { if number < end { 1 } else { 0 } }
         None => 0,
     }
 }

@@ -10,6 +10,17 @@ use Rattle.roam_sessions.proofs.ListedLemmas.{listed-last}
 use Rattle.roam_sessions.proofs.SoundLemmas.{tickets-come}
 use Rattle.roam_sessions.proofs.chain.Chain.append.Goals as goal
 
+-- the tickets don't run out
+pub overflow_add-ticket : goal.overflow_add-ticket
+unfolding tickets_end
+overflow_add-ticket g c =
+    let sound = c.requires.sound in
+    omega (arith, sound.ticket_room, sound.room.by_ticket, c.requires.room, c.vacant_key.ensures.value)
+
+pub overflow_add-self : goal.overflow_add-self
+unfolding tickets_end
+overflow_add-self g c = omega (arith, c.requires.sound.ticket_room, c.requires.room)
+
 -- one place fewer
 less : (n : ℕ) → 0 < n → n ≡ n - 1 + 1
 less n some = omega (arith, some)
