@@ -1,5 +1,5 @@
 -- The rows of a session table at their places: what a ticket has where one comes in, goes, or gets other neighbours.
-use Rattle.std.proofs.Common.{◌≡◌, ◌≢◌, ℕ, ◌-◌, ◌<◌, ◌≤◌, true, false, length, Option, Some, None, is_some, cond, refl, sym, ap, ◌∙◌, subst, inl, inr, arith}
+use Rattle.std.proofs.Common.{◌≡◌, ◌≢◌, ℕ, ◌-◌, ◌<◌, ◌≤◌, true, false, length, Option, Some, None, is_none, is_some, cond, refl, sym, ap, ◌∙◌, subst, inl, inr, arith}
 use Rattle.std.specs.Prelude.{◌==◌, min, IsSome, option_and_then, option_map}
 use Rattle.std.proofs.lemmas.Bool.{cases_Bool, cases_eq}
 use Rattle.std.proofs.lemmas.Bool.Decides.{nat_tests}
@@ -140,5 +140,19 @@ pub there-some : {A : Type 0} (o : Option (LinkedSession A)) (t : ℕ) → IsSom
 there-some None t held = absurd (cc held)
 there-some (Some x) t held = refl
 
-pub none-of : {A : Type 0} (t : ℕ) → IsOf {A} t None
+pub none-of : {A : Type 0} (t : ℕ) (row : LinkedSession A) → None ≡ Some row → row.ticket ≡ t
 none-of t row is = absurd (cc is)
+
+-- the row of a ticket that has neighbours is its own
+pub linked-own : {A : Type 0} (m : Slab (LinkedSession A)) (t : ℕ) (row : LinkedSession A)
+    → get m (place_of t) ≡ Some row → IsSome (links_at m t) → row.ticket ≡ t
+linked-own {A} m t row at held =
+    held-of (get m (place_of t)) t (seen-some (λ (s : LinkedSession A). s.links) (linked_row m t) held) row at
+
+pub none-linked : {A : Type 0} (m : Slab (LinkedSession A)) (t : ℕ) → get m (place_of t) ≡ None → links_at m t ≡ None
+none-linked {A} m t none = ap (λ (o : Option (LinkedSession A)). option_map (λ (s : LinkedSession A). s.links)
+    (option_and_then (if_ticket t) o)) none
+
+pub some-held : {X : Type 0} (o : Option X) → is_none o ≡ false → IsSome o
+some-held None is = absurd (cc is)
+some-held (Some x) is = refl

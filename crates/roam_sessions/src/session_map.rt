@@ -139,9 +139,10 @@ pub(crate) fn write<A: Allocator + Copy>(map: &mut SessionMap<A>, number: u64, l
         → PutsAt (links_at map.old) (links_at map.new) number (Some links) }
     ensures stay { SessionsStay map.old map.new }
 {
+    if links_of(map, number).is_none() {
+        return;
+    }
     if let Some(row) = map.get_mut(place_of(number)) {
-        if row.ticket == number {
-            row.links = links;
-        }
+        row.links = links;
     }
 }
