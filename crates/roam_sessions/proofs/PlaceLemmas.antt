@@ -8,7 +8,7 @@ use Rattle.std.proofs.lemmas.List.Sums.{sum_by-set}
 use Rattle.slab.specs.Slab.{Slab, Updates, get, slab_len, with_value}
 use Rattle.slab.proofs.SlabLemmas.{ContainsKey-within, Updates-with_value}
 use Rattle.roam_wire.specs.Numbered.{PutsAt}
-use Rattle.roam_sessions.specs.Maps.{SessionsStay, if_ticket, linked_row, linked_session, links_at, session_of}
+use Rattle.roam_sessions.specs.Maps.{SessionsStay, if_ticket, linked_row, linked_session, links_at, row_room, session_of}
 use Rattle.roam_sessions.specs.Private.Places.{place_of}
 use Rattle.roam_sessions.specs.declared.links.Links.{Links}
 use Rattle.roam_sessions.specs.declared.session_map.LinkedSession.{LinkedSession}
@@ -156,3 +156,17 @@ none-linked {A} m t none = ap (λ (o : Option (LinkedSession A)). option_map (λ
 pub some-held : {X : Type 0} (o : Option X) → is_none o ≡ false → IsSome o
 some-held None is = absurd (cc is)
 some-held (Some x) is = refl
+
+-- the slab grew
+module _ {A : Type 0} (m n : Slab (LinkedSession A)) (same : n ≡ record m { capacity = n.capacity }) where
+  same-len : slab_len n ≡ slab_len m
+  same-len = ap (λ (s : Slab (LinkedSession A)). slab_len s) same
+
+  same-key : n.vacant_key ≡ m.vacant_key
+  same-key = ap (λ (s : Slab (LinkedSession A)). s.vacant_key) same
+
+  pub grown-room : m.capacity ≤ n.capacity → row_room m ≤ row_room n
+  grown-room more = omega (arith, same-len, same-key, more)
+
+  pub made-room : m.vacant_key < 1048576 → slab_len n < n.capacity → 1 ≤ row_room n
+  made-room place room = omega (arith, same-key, place, room)
