@@ -122,14 +122,15 @@ module _ {X : Type 0} (F : ℕ → Option X) where
       (λ u le. before-same i u (λ is. others u is (λ e. absurd (cc e)))) in
       omega (arith, ap (λ (l : List X). length l) same)
   counted-next i end (Some t) there at others =
+      let here : place_of t ≡ i = at in
       let but : (v : ℕ) → v ≢ t → before_place i F v ≡ before_place (i + 1) F v =
       λ v ne. sym (before-same i v (λ is. others v is (λ e. ne (let k : t ≡ v = cc e in sym k)))) in
       elim (cases_lt t end) [
         | inl lt ↦ (
             let held : IsSome (before_place (i + 1) F t) =
-            subst (λ (o : Option X). IsSome o) (sym (before-now (i + 1) t (omega (arith, at)))) there in
+            subst (λ (o : Option X). IsSome o) (sym (before-now (i + 1) t (omega (arith, here)))) there in
             let gone = length-gone (before_place (i + 1) F) (before_place i F) 0 end t held
-            (before-not i t (omega (arith, at))) but (omega arith) (omega (arith, lt)) in
+            (before-not i t (omega (arith, here))) but (omega arith) (omega (arith, lt)) in
             let one = ap (λ (b : Bool). cond b 1 0) (lt-ltb t end lt) in
             omega (arith, gone, one))
         | inr ge ↦ (
