@@ -1,5 +1,5 @@
 -- The rows of a session table at their places: what a ticket has where one comes in, goes, or gets other neighbours.
-use Rattle.std.proofs.Common.{◌≡◌, ◌≢◌, ℕ, ◌-◌, ◌<◌, ◌≤◌, true, false, length, Option, Some, None, is_none, is_some, cond, refl, sym, ap, ◌∙◌, subst, inl, inr, arith}
+use Rattle.std.proofs.Common.{◌≡◌, ◌≢◌, ℕ, ◌-◌, ◌<◌, ◌≤◌, Bool, true, false, length, Option, Some, None, is_none, is_some, cond, refl, sym, ap, ◌∙◌, subst, inl, inr, arith}
 use Rattle.std.specs.Prelude.{◌==◌, min, IsSome, option_and_then, option_map}
 use Rattle.std.proofs.lemmas.Bool.{cases_Bool, cases_eq}
 use Rattle.std.proofs.lemmas.Bool.Decides.{nat_tests}
@@ -156,6 +156,38 @@ none-linked {A} m t none = ap (λ (o : Option (LinkedSession A)). option_map (λ
 pub some-held : {X : Type 0} (o : Option X) → is_none o ≡ false → IsSome o
 some-held None is = absurd (cc is)
 some-held (Some x) is = refl
+
+pub none-held : {X : Type 0} (o : Option X) → is_none o ≡ true → o ≡ None
+none-held None is = refl
+none-held (Some x) is = absurd (cc is)
+
+-- what a ticket has, by the row at its place
+module _ {A : Type 0} (m : Slab (LinkedSession A)) (t : ℕ) where
+  pub row-none : get m (place_of t) ≡ None → None ≡ linked_row m t
+  row-none none = sym (ap (λ (o : Option (LinkedSession A)). option_and_then (if_ticket t) o) none)
+
+  pub session-none : get m (place_of t) ≡ None → session_of m t ≡ None
+  session-none none = ap (option_map linked_session) (sym (row-none none))
+
+  module _ (row : LinkedSession A) (at : get m (place_of t) ≡ Some row) where
+    by-ticket : linked_row m t ≡ if_ticket t row
+    by-ticket = ap (λ (o : Option (LinkedSession A)). option_and_then (if_ticket t) o) at
+
+    pub row-found : (row.ticket == t) ≡ true → Some row ≡ linked_row m t
+    row-found same = sym (by-ticket ∙ ap (λ (b : Bool). cond b (Some row) None) same)
+
+    pub row-missed : (row.ticket == t) ≡ false → None ≡ linked_row m t
+    row-missed apart = sym (by-ticket ∙ ap (λ (b : Bool). cond b (Some row) None) apart)
+
+    pub session-found : row.ticket ≡ t → IsSome (session_of m t)
+    session-found own =
+        let same : (row.ticket == t) ≡ true = grind (arith, nat_tests) in
+        subst (λ (o : Option (LinkedSession A)). IsSome (option_map linked_session o)) (row-found same) refl
+
+    pub session-missed : row.ticket ≢ t → session_of m t ≡ None
+    session-missed ne =
+        let apart : (row.ticket == t) ≡ false = grind (arith, nat_tests) in
+        ap (option_map linked_session) (sym (row-missed apart))
 
 -- the slab grew
 module _ {A : Type 0} (m n : Slab (LinkedSession A)) (same : n ≡ record m { capacity = n.capacity }) where

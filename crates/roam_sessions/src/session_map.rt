@@ -1,7 +1,7 @@
 //! Sessions by their tickets, each with its neighbours. They lie in a slab: a ticket names the place of its session, so
 //! that no index is kept, and the slab grows by a sixteenth.
 
-ghost use Rattle.std.specs.Prelude.{◌≡◌, ◌≢◌, ℕ, ◌<◌, ◌≤◌, ◌+◌, None, Some, IfSome, IsSome, OnOk};
+ghost use Rattle.std.specs.Prelude.{◌≡◌, ◌≢◌, ◌==◌, ℕ, ◌<◌, ◌≤◌, ◌+◌, None, Some, IfSome, IsSome, OnOk};
 ghost use Rattle.std.specs.Option.{option_copied};
 ghost use Rattle.slab.specs.Slab.{slab_len};
 ghost use Rattle.roam_sessions.specs.Kept.{kept_session};
@@ -86,6 +86,20 @@ pub(crate) fn take<A: Allocator + Copy>(map: &mut SessionMap<A>, ticket: u64)
     let _row = map.remove(place_of(ticket));
 }
 
+/// Returns whether a row has this ticket.
+fn has_ticket<A: Allocator>(row: &LinkedSession<A>, ticket: u64) -> bool
+    ensures { result ≡ (row.now.ticket == ticket) }
+{
+    row.ticket == ticket
+}
+
+/// Returns whether the ticket of a row names this place.
+fn is_at<A: Allocator>(row: &LinkedSession<A>, place: usize) -> bool
+    ensures { result ≡ (place_of row.now.ticket == place) }
+{
+    place_of(row.ticket) == place
+}
+
 /// Returns the row of a ticket.
 pub(crate) fn linked_row<A: Allocator>(
     map: &SessionMap<A>,
@@ -96,7 +110,7 @@ pub(crate) fn linked_row<A: Allocator>(
     match map.get(place_of(ticket)) {
         None => None,
         Some(row) => {
-            if row.ticket == ticket {
+            if has_ticket(row, ticket) {
                 Some(row)
             } else {
                 None
@@ -114,7 +128,7 @@ pub(crate) fn ticket_at<A: Allocator>(map: &SessionMap<A>, place: usize) -> Opti
     match map.get(place) {
         None => None,
         Some(row) => {
-            if place_of(row.ticket) == place {
+            if is_at(row, place) {
                 Some(row.ticket)
             } else {
                 None
