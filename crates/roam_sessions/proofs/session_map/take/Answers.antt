@@ -14,20 +14,20 @@ remove-requires g c =
     (there-some (get c.args.map.now (place_of c.args.ticket)) c.args.ticket held)
 
 went : (g : _) (c : goal.Returns g)
-    → PutsAt (linked_row c.args.map.now) (linked_row c.remove-_row.new.self) c.args.ticket None
+    → PutsAt (linked_row c.args.map.now) (linked_row c.remove.new.self) c.args.ticket None
 went g c =
     let m = c.args.map.now in
-    let n = c.remove-_row.new.self in
+    let n = c.remove.new.self in
     let t = c.args.ticket in
     row-set m n t None (held-of (get m (place_of t)) t (seen-some linked_session (linked_row m t) c.requires)) (none-of t)
-    (subst (λ (k : ℕ). Updates m n k None) c.place_of.ensures c.remove-_row.ensures.updates)
+    (subst (λ (k : ℕ). Updates m n k None) c.place_of.ensures c.remove.ensures.updates)
 
 pub returns-clause-puts : goal.returns-clause-puts
-returns-clause-puts g c = sessions-put c.args.map.now c.remove-_row.new.self c.args.ticket None (went g c)
+returns-clause-puts g c = sessions-put c.args.map.now c.remove.new.self c.args.ticket None (went g c)
 
 pub returns-clause-links : goal.returns-clause-links
-returns-clause-links g c = links-set c.args.map.now c.remove-_row.new.self c.args.ticket None (went g c)
+returns-clause-links g c = links-set c.args.map.now c.remove.new.self c.args.ticket None (went g c)
 
 pub returns-clause-room : goal.returns-clause-room
 returns-clause-room g c =
-    omega (arith, c.remove-_row.ensures.key_is_next, c.place_of.ensures, c.remove-_row.ensures.room)
+    omega (arith, c.remove.ensures.key_is_next, c.place_of.ensures, c.remove.ensures.room)
