@@ -1,5 +1,5 @@
 -- The rows of a session table at their places: what a ticket has where one comes in, goes, or gets other neighbours.
-use Rattle.std.proofs.Common.{◌≡◌, ◌≢◌, ℕ, ◌-◌, ◌<◌, ◌≤◌, Bool, true, false, length, Option, Some, None, is_none, is_some, cond, refl, sym, ap, ◌∙◌, subst, inl, inr, arith}
+use Rattle.std.proofs.Common.{◌≡◌, ◌≢◌, ℕ, ◌-◌, ◌<◌, ◌≤◌, Bool, true, false, length, Option, Some, None, is_some, cond, refl, sym, ap, ◌∙◌, subst, inl, inr, arith}
 use Rattle.std.specs.Prelude.{◌==◌, min, IsSome, option_and_then, option_map}
 use Rattle.std.proofs.lemmas.Bool.{cases_Bool, cases_eq}
 use Rattle.std.proofs.lemmas.Bool.Decides.{nat_tests}
@@ -56,7 +56,7 @@ module _ {A : Type 0} where
         let own : x.ticket ≡ t = grind (arith, nat_tests) in
         one-of (Some x) x t refl own)
     | inr apart ↦ absurd (
-        let none : IsSome None = rw apart at held in
+        let none : IsSome {T = LinkedSession A} None = rw apart at held in
         cc none)
   ]
 
@@ -119,7 +119,7 @@ module _ {A : Type 0} where
         ∙ own-row (Some row) t (one-of (Some row) row t refl own) in
         let counted = sum_by-set (λ (o : Option (LinkedSession A)). cond (is_some o) 1 0) m.slots (place_of t)
         (Some relinked) None (ContainsKey-within m (place_of t) (rw at refl)) in
-        let one = ap (λ (o : Option (LinkedSession A)). cond (is_some o) 1 0) at in
+        let one = ap {B = ℕ} (λ (o : Option (LinkedSession A)). cond (is_some o) 1 0) at in
         let len : slab_len after ≡ slab_len m = omega (arith, counted, one) in
         record {
           sessions = λ u. elim (cases_eq u t) [
@@ -153,11 +153,11 @@ pub none-linked : {A : Type 0} (m : Slab (LinkedSession A)) (t : ℕ) → get m 
 none-linked {A} m t none = ap (λ (o : Option (LinkedSession A)). option_map (λ (s : LinkedSession A). s.links)
     (option_and_then (if_ticket t) o)) none
 
-pub some-held : {X : Type 0} (o : Option X) → is_none o ≡ false → IsSome o
+pub some-held : {X : Type 0} (o : Option X) → is_some o ≡ true → IsSome o
 some-held None is = absurd (cc is)
 some-held (Some x) is = refl
 
-pub none-held : {X : Type 0} (o : Option X) → is_none o ≡ true → o ≡ None
+pub none-held : {X : Type 0} (o : Option X) → is_some o ≡ false → o ≡ None
 none-held None is = refl
 none-held (Some x) is = absurd (cc is)
 

@@ -68,7 +68,7 @@ pub(crate) fn put<A: Allocator + Copy>(
     ensures room { row_room map.old ≤ row_room map.new + 1 }
 {
     let links = no_links();
-    map.insert_reserved(LinkedSession {
+    let _place = map.insert_reserved(LinkedSession {
         ticket,
         session,
         links,
@@ -83,7 +83,7 @@ pub(crate) fn take<A: Allocator + Copy>(map: &mut SessionMap<A>, ticket: u64)
     ensures len { slab_len map.new + 1 ≡ slab_len map.old }
     ensures room { row_room map.old ≤ row_room map.new }
 {
-    map.remove(place_of(ticket));
+    let _row = map.remove(place_of(ticket));
 }
 
 /// Returns whether a row has this ticket.

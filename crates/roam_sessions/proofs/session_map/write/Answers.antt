@@ -1,4 +1,4 @@
-use Rattle.std.proofs.Common.{◌≡◌, ℕ, Option, Some, None, is_none, sym, ap, ◌∙◌, subst, rules}
+use Rattle.std.proofs.Common.{◌≡◌, ℕ, Option, Some, None, is_some, sym, ap, ◌∙◌, subst, rules}
 use Rattle.slab.specs.Slab.{get, with_value}
 use Rattle.roam_wire.specs.Numbered.{PutsAt}
 use Rattle.roam_sessions.specs.Maps.{SessionsStay, links_at}
@@ -13,7 +13,7 @@ use Rattle.roam_sessions.proofs.session_map.write.Goals as goal
 pub returns-then-is_none-clause-puts : goal.returns-then-is_none-clause-puts
 returns-then-is_none-clause-puts g c = λ there. absurd (
     let none : links_at c.args.map.now c.args.number ≡ None =
-    sym c.links_of.ensures ∙ none-held c.links_of.result (sym c.if-is_none.ensures) in
+    sym c.links_of.ensures ∙ none-held c.links_of.result c.if-is_none.ensures in
     held-none (links_at c.args.map.now c.args.number) there none)
 
 pub returns-then-is_none-clause-stay : goal.returns-then-is_none-clause-stay
@@ -37,7 +37,7 @@ returns-in-Some-clause-stay g c =
     let t = c.args.number in
     let row = c.in-Some.row.now in
     let there = some-held (links_at m t)
-    (sym (c.if-is_none.ensures ∙ ap (λ (o : Option Links). is_none o) c.links_of.ensures)) in
+    (sym (ap (λ (o : Option Links). is_some o) c.links_of.ensures) ∙ c.if-is_none.ensures) in
     let here : get m c.place_of.result ≡ Some row = search rules in
     let at : get m (place_of t) ≡ Some row = subst (λ (k : ℕ). get m k ≡ Some row) c.place_of.ensures here in
     let new : LinkedSession g.row.A.Denot =

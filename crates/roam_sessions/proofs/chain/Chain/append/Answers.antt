@@ -1,4 +1,4 @@
-use Rattle.std.proofs.Common.{◌≡◌, ℕ, ◌+◌, ◌*◌, ◌-◌, ◌<◌, List, [], ◌∷◌, length, Some, ap, ◌∙◌, subst, arith, length-append}
+use Rattle.std.proofs.Common.{◌≡◌, ℕ, ◌+◌, ◌*◌, ◌-◌, ◌<◌, ◌≤◌, List, [], ◌∷◌, length, Some, ap, ◌∙◌, subst, arith, length-append}
 use Rattle.roam_wire.specs.Numbered.{PutsAt, tickets_end}
 use Rattle.roam_sessions.specs.Facets.{ComesIn, FacetsHaveRoom}
 use Rattle.roam_sessions.specs.Kept.{kept_session}
@@ -26,7 +26,7 @@ less : (n : ℕ) → 0 < n → n ≡ n - 1 + 1
 less n some = omega (arith, some)
 
 -- the session comes in under the next ticket
-comes : (g : _) (c : goal.Returns g)
+comes : (g : _) (c : goal.After-append g)
     → PutsAt (session_at c.args.self.now) (session_of c.append.new.map) (next_ticket c.args.self.now)
     (Some (kept_session c.args.new.session))
 comes g c =

@@ -17,14 +17,14 @@ loop-place-preserved g c =
     let next = counted-next (session_at c.args.self.now) c.loop-place.place c.args.ticket c.ticket_at.result
     c.ticket_at.ensures.there c.ticket_at.ensures.place c.ticket_at.ensures.others in
     record {
-      counted = omega (arith, old.counted, next, c.below.ensures);
-      few = omega (arith, old.few, few, c.below.ensures);
+      counted = omega (arith, old.counted, next, c.below-count.ensures);
+      few = omega (arith, old.few, few, c.below-count.ensures);
     }
 
 pub overflow_add-count : goal.overflow_add-count
 overflow_add-count g c =
     let few = below-few c.args.ticket c.ticket_at.result in
-    omega (arith, c.loop-place.invariant.few, few, c.below.ensures, c.loop-place-test.true)
+    omega (arith, c.loop-place.invariant.few, few, c.below-count.ensures, c.loop-place-test.true)
 
 pub returns : goal.returns
 returns g c =

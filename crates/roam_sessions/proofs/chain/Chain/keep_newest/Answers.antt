@@ -33,10 +33,8 @@ loop-place-preserved g c =
     }
 
 -- the others are left
-left : (g : _) (c : goal.Returns g)
-    → sessions_of c.loop-place.self
-    ≡ drop (length (sessions_of c.args.self.now) - c.args.limit) (sessions_of c.args.self.now)
-left g c =
+pub returns-clause-sessions : goal.returns-clause-sessions
+returns-clause-sessions g c =
     let F = session_at c.args.self.now in
     let old = c.loop-place.invariant in
     let none : (t : ℕ) → t < c.ticket_after-end.result → session_at c.loop-place.self t ≡ None =
@@ -52,16 +50,13 @@ left g c =
     (omega (arith, c.ticket_after-end.ensures.given, c.requires.tickets.within)) none old.later
     ∙ ap (λ (n : ℕ). drop n (sessions_of c.args.self.now)) over
 
-pub returns-clause-sessions : goal.returns-clause-sessions
-returns-clause-sessions g c = left g c
-
 pub returns-clause-count : goal.returns-clause-count
 returns-clause-count g c =
     let all = sessions_of c.args.self.now in
     omega (
       arith,
       c.loop-place.invariant.sound.count,
-      ap (λ (l : List Session). length l) (left g c),
+      ap (λ (l : List Session). length l) (returns-clause-sessions g c),
       length-drop (length all - c.args.limit) all,
       c.len-count.ensures,
       c.requires.count,
