@@ -131,13 +131,13 @@ module _ {X : Type 0} (F : ℕ → Option X) where
             subst (λ (o : Option X). IsSome o) (sym (before-now (i + 1) t (omega (arith, here)))) there in
             let gone = length-gone (before_place (i + 1) F) (before_place i F) 0 end t held
             (before-not i t (omega (arith, here))) but (omega arith) (omega (arith, lt)) in
-            let one = ap {B = ℕ} (λ (b : Bool). cond b 1 0) (lt-ltb t end lt) in
+            let one : below end (Some t) ≡ 1 = ap {B = ℕ} (λ (b : Bool). cond b 1 0) (lt-ltb t end lt) in
             omega (arith, gone, one))
         | inr ge ↦ (
             let same : listed (before_place (i + 1) F) 0 end ≡ listed (before_place i F) 0 end =
             listed-below (before_place i F) (before_place (i + 1) F) 0 end
             (λ v less. sym (but v (λ e. absurd (omega (arith, less, e, ge))))) in
-            let none = ap {B = ℕ} (λ (b : Bool). cond b 1 0) (le-ltb t end ge) in
+            let none : below end (Some t) ≡ 0 = ap {B = ℕ} (λ (b : Bool). cond b 1 0) (le-ltb t end ge) in
             omega (arith, ap (λ (l : List X). length l) same, none))
       ]
 
@@ -154,6 +154,6 @@ module _ {X : Type 0} (F : ℕ → Option X) where
 pub below-few : (end : ℕ) (o : Option ℕ) → below end o ≤ 1
 below-few end None = omega arith
 below-few end (Some t) = elim (cases_lt t end) [
-  | inl lt ↦ (let one = ap {B = ℕ} (λ (b : Bool). cond b 1 0) (lt-ltb t end lt) in omega (arith, one))
-  | inr ge ↦ (let none = ap {B = ℕ} (λ (b : Bool). cond b 1 0) (le-ltb t end ge) in omega (arith, none))
+  | inl lt ↦ (let one : below end (Some t) ≡ 1 = ap {B = ℕ} (λ (b : Bool). cond b 1 0) (lt-ltb t end lt) in omega (arith, one))
+  | inr ge ↦ (let none : below end (Some t) ≡ 0 = ap {B = ℕ} (λ (b : Bool). cond b 1 0) (le-ltb t end ge) in omega (arith, none))
 ]
