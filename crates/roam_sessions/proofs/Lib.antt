@@ -39,3 +39,4 @@ pub mod MarkLemmas
 pub mod WalkLemmas
 pub mod BucketLemmas
 pub mod PartedLemmas
+pub mod PlaceLemmas

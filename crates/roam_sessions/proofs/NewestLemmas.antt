@@ -1,14 +1,12 @@
 -- The sessions of tickets before one, and how many those are.
-use Rattle.std.proofs.Common.{◌≡◌, ℕ, zero, suc, ◌+◌, ◌-◌, ◌<◌, ◌≤◌, Bool, true, false, List, [], ◌∷◌, ◌++◌, length, drop, get_or, length-append, Option, Some, None, refl, sym, ap, ◌∙◌, subst, inl, inr, arith, cond}
-use Rattle.std.specs.Prelude.{IfNone, IfSome, IsSome, nat_eq, nat_lt, option_map}
-use Rattle.std.specs.List.{AllByRecursion, IsDistinct, cons_option, count_by}
-use Rattle.std.specs.Map.{keys_of, lookup}
-use Rattle.std.proofs.lemmas.Bool.{cases_Bool, cases_lt, le-ltb, lt-ltb}
-use Rattle.std.proofs.lemmas.Bool.Decides.{nat_tests}
+use Rattle.std.proofs.Common.{◌≡◌, ◌≢◌, ℕ, zero, suc, ◌+◌, ◌-◌, ◌<◌, ◌≤◌, Bool, List, [], ◌++◌, length, drop, length-append, Option, Some, None, refl, sym, ap, ◌∙◌, subst, inl, inr, arith, cond}
+use Rattle.std.specs.Prelude.{IfSome, IsSome}
+use Rattle.std.specs.List.{cons_option}
+use Rattle.std.proofs.lemmas.Bool.{cases_eq, cases_lt, le-ltb, lt-ltb}
 use Rattle.std.proofs.lemmas.List.{append-nil, drop_at}
-use Rattle.std.proofs.lemmas.List.Sums.{sum_by-cons}
 use Rattle.roam_wire.specs.Numbered.{listed}
-use Rattle.roam_sessions.proofs.ListedLemmas.{length-gone, listed-same}
+use Rattle.roam_sessions.specs.Private.Places.{before_place, below, place_of}
+use Rattle.roam_sessions.proofs.ListedLemmas.{length-gone, listed-none, listed-same}
 
 module _ {X : Type 0} where
   -- what numbers have up to one, and from it on
@@ -92,91 +90,70 @@ module _ {X : Type 0} where
       ∙ sym (ap (drop (length (listed f 0 end))) old
       ∙ drop_at (listed f 0 end) (listed f (0 + end) (last - end)) (length (listed f 0 end)) refl)
 
--- ---- the keys of a map
+-- those of places before one
+module _ {X : Type 0} (F : ℕ → Option X) where
+  before-now : (i u : ℕ) → place_of u < i → before_place i F u ≡ F u
+  before-now i u lt = ap (λ (b : Bool). cond b (F u) None) (lt-ltb (place_of u) i lt)
 
-module _ {X Y : Type 0} (seen : X → Y) where
-  abbrev at : List (ℕ × X) → ℕ → Option Y
-  at es t = option_map seen (lookup (nat_eq t) es)
+  before-not : (i u : ℕ) → i ≤ place_of u → before_place i F u ≡ None
+  before-not i u ge = ap (λ (b : Bool). cond b (F u) None) (le-ltb (place_of u) i ge)
 
-  -- a key that isn't there has nothing
-  absent : (k : ℕ) (es : List (ℕ × X)) → AllByRecursion (λ y. nat_eq k y ≡ false) (keys_of es) → at es k ≡ None
-  absent k [] none = refl
-  absent k (e ∷ es) none = rw none.0 (absent k es none.1)
+  -- of no place, of one place more, of all
+  pub counted-none : (end : ℕ) → length (listed (before_place 0 F) 0 end) ≡ 0
+  counted-none end = ap (λ (l : List X). length l)
+      (listed-none (before_place 0 F) 0 end (λ u le. before-not 0 u (omega arith)))
 
-  other : (k t : ℕ) (x : X) (es : List (ℕ × X)) → (t ≡ k → ⊥) → at ((k, x) ∷ es) t ≡ at es t
-  other k t x es ne = (let apart : nat_eq t k ≡ false = grind (arith, nat_tests) in rw apart refl)
-
-  here : (k : ℕ) (x : X) (es : List (ℕ × X)) → at ((k, x) ∷ es) k ≡ Some (seen x)
-  here k x es = (let same : nat_eq k k ≡ true = grind (arith, nat_tests) in rw same refl)
-
-  abbrev one_below : ℕ → ℕ → ℕ
-  one_below t k = cond (nat_lt k t) 1 0
-
-  one-less : (k t : ℕ) (ks : List ℕ) → k < t
-      → count_by (λ (n : ℕ). nat_lt n t) (k ∷ ks) ≡ 1 + count_by (λ (n : ℕ). nat_lt n t) ks
-  one-less k t ks lt =
-      sum_by-cons (one_below t) k ks
-      ∙ ap (λ (b : Bool). cond b 1 0 + count_by (λ (n : ℕ). nat_lt n t) ks) (lt-ltb k t lt)
-
-  no-less : (k t : ℕ) (ks : List ℕ) → t ≤ k
-      → count_by (λ (n : ℕ). nat_lt n t) (k ∷ ks) ≡ 0 + count_by (λ (n : ℕ). nat_lt n t) ks
-  no-less k t ks ge =
-      sum_by-cons (one_below t) k ks
-      ∙ ap (λ (b : Bool). cond b 1 0 + count_by (λ (n : ℕ). nat_lt n t) ks) (le-ltb k t ge)
-
-  -- as many keys are below a number as numbers below it have something
-  pub keys-counted : (es : List (ℕ × X)) (t : ℕ) → IsDistinct nat_eq (keys_of es)
-      → count_by (λ k. nat_lt k t) (keys_of es) ≡ length (listed (at es) 0 t)
-  unfolding IsDistinct
-  keys-counted [] t distinct = sym (ap (λ (l : List Y). length l) (listed-empty (at []) 0 t (λ u le lt. refl)))
-  keys-counted (e ∷ es) t distinct =
-      let rest = keys-counted es t distinct.1 in
-      let none = absent e.0 es distinct.0 in
-      elim (cases_lt e.0 t) [
-        | inl lt ↦ (
-            let one = length-gone (at (e ∷ es)) (at es) 0 t e.0
-            (subst (λ (o : Option Y). IsSome o) (sym (here e.0 e.1 es)) refl) none
-            (λ v ne. sym (other e.0 v e.1 es ne)) (omega arith) (omega (arith, lt)) in
-            omega (arith, one-less e.0 t (keys_of es) lt, rest, one))
-        | inr ge ↦ (
-            let same : listed (at (e ∷ es)) 0 t ≡ listed (at es) 0 t =
-            listed-below (at es) (at (e ∷ es)) 0 t
-            (λ v lt. other e.0 v e.1 es (λ is. absurd (omega (arith, lt, is, ge)))) in
-            omega (arith, no-less e.0 t (keys_of es) ge, rest, ap (λ (l : List Y). length l) same))
-      ]
-
-  -- a key has something
-  pub key-held : (es : List (ℕ × X)) (k t : ℕ) → k < length (keys_of es) → get_or (keys_of es) k 0 ≡ t
-      → IsSome (at es t)
-  key-held [] k t lt is = absurd (omega (arith, lt))
-  key-held (e ∷ es) zero t lt is = subst (λ (n : ℕ). IsSome (at (e ∷ es) n)) is
-      (subst (λ (o : Option Y). IsSome o) (sym (here e.0 e.1 es)) refl)
-  key-held (e ∷ es) (suc k) t lt is = elim (cases_Bool (nat_eq t e.0)) [
-    | inl same ↦ rw same refl
-    | inr apart ↦ rw apart (key-held es k t (omega (arith, lt)) is)
+  -- the place has no session of another ticket
+  before-same : (i u : ℕ) → (place_of u ≡ i → F u ≡ None) → before_place (i + 1) F u ≡ before_place i F u
+  before-same i u none = elim (cases_lt (place_of u) i) [
+    | inl lt ↦ before-now (i + 1) u (omega (arith, lt)) ∙ sym (before-now i u lt)
+    | inr ge ↦ elim (cases_eq (place_of u) i) [
+      | inl is ↦ before-now (i + 1) u (omega (arith, is)) ∙ none is ∙ sym (before-not i u ge)
+      | inr ne ↦ before-not (i + 1) u (omega (arith, ge, ne)) ∙ sym (before-not i u ge)
+    ]
   ]
 
-  -- where all keys are from a number on, no lesser one has anything
-  pub none-below : (es : List (ℕ × X)) (end t : ℕ)
-      → ((k : ℕ) → k < length (keys_of es) → end ≤ get_or (keys_of es) k 0) → t < end → at es t ≡ None
-  none-below [] end t all lt = refl
-  none-below (e ∷ es) end t all lt =
-      let first : end ≤ e.0 = all 0 (omega arith) in
-      other e.0 t e.1 es (λ is. absurd (omega (arith, first, is, lt)))
-      ∙ none-below es end t (λ k less. all (suc k) (omega (arith, less))) lt
+  pub counted-next : (i end : ℕ) (o : Option ℕ) → IfSome o (λ t. IsSome (F t)) → IfSome o (λ t. place_of t ≡ i)
+      → ((t : ℕ) → place_of t ≡ i → o ≢ Some t → F t ≡ None)
+      → length (listed (before_place (i + 1) F) 0 end) ≡ length (listed (before_place i F) 0 end) + below end o
+  counted-next i end None there at others =
+      let same : listed (before_place (i + 1) F) 0 end ≡ listed (before_place i F) 0 end =
+      listed-same (before_place i F) (before_place (i + 1) F) 0 end
+      (λ u le. before-same i u (λ is. others u is (λ e. absurd (cc e)))) in
+      omega (arith, ap (λ (l : List X). length l) same)
+  counted-next i end (Some t) there at others =
+      let here : place_of t ≡ i = at in
+      let but : (v : ℕ) → v ≢ t → before_place i F v ≡ before_place (i + 1) F v =
+      λ v ne. sym (before-same i v (λ is. others v is (λ e. ne (let k : t ≡ v = cc e in sym k)))) in
+      elim (cases_lt t end) [
+        | inl lt ↦ (
+            let held : IsSome (before_place (i + 1) F t) =
+            subst (λ (o : Option X). IsSome o) (sym (before-now (i + 1) t (omega (arith, here)))) there in
+            let gone = length-gone (before_place (i + 1) F) (before_place i F) 0 end t held
+            (before-not i t (omega (arith, here))) but (omega arith) (omega (arith, lt)) in
+            let one : below end (Some t) ≡ 1 = ap {B = ℕ} (λ (b : Bool). cond b 1 0) (lt-ltb t end lt) in
+            omega (arith, gone, one))
+        | inr ge ↦ (
+            let same : listed (before_place (i + 1) F) 0 end ≡ listed (before_place i F) 0 end =
+            listed-below (before_place i F) (before_place (i + 1) F) 0 end
+            (λ v less. sym (but v (λ e. absurd (omega (arith, less, e, ge))))) in
+            let none : below end (Some t) ≡ 0 = ap {B = ℕ} (λ (b : Bool). cond b 1 0) (le-ltb t end ge) in
+            omega (arith, ap (λ (l : List X). length l) same, none))
+      ]
 
-  -- what a search of the keys found, and that it found none
-  pub found-held : (es : List (ℕ × X)) (ks : List ℕ) (o : Option (ℕ × ℕ)) → ks ≡ keys_of es
-      → IfSome o (λ x. x.0 < length ks) → IfSome o (λ x. get_or ks x.0 0 ≡ x.1) → IfSome o (λ x. IsSome (at es x.1))
-  found-held es ks None keys within there = tt
-  found-held es ks (Some x) keys within there =
-      key-held es x.0 x.1 (omega (arith, within, ap (λ (l : List ℕ). length l) keys))
-      (sym (ap (λ (l : List ℕ). get_or l x.0 0) keys) ∙ there)
+  pub counted-all : (i end : ℕ) → ((t : ℕ) → i ≤ place_of t → F t ≡ None)
+      → length (listed (before_place i F) 0 end) ≡ length (listed F 0 end)
+  counted-all i end none = ap (λ (l : List X). length l) (listed-same F (before_place i F) 0 end (λ u le. each u))
+    where
+      each : (u : ℕ) → before_place i F u ≡ F u
+      each u = elim (cases_lt (place_of u) i) [
+        | inl lt ↦ before-now i u lt
+        | inr ge ↦ before-not i u ge ∙ sym (none u ge)
+      ]
 
-  pub found-none : (es : List (ℕ × X)) (ks : List ℕ) (end : ℕ) (o : Option (ℕ × ℕ)) → ks ≡ keys_of es
-      → IfNone o ((k : ℕ) → k < length ks → end ≤ get_or ks k 0)
-      → IfNone o ((t : ℕ) → t < end → at es t ≡ None)
-  found-none es ks end None keys none =
-      λ t lt. none-below es end t
-      (subst (λ (l : List ℕ). (k : ℕ) → k < length l → end ≤ get_or l k 0) keys none) lt
-  found-none es ks end (Some x) keys none = tt
+pub below-few : (end : ℕ) (o : Option ℕ) → below end o ≤ 1
+below-few end None = omega arith
+below-few end (Some t) = elim (cases_lt t end) [
+  | inl lt ↦ (let one : below end (Some t) ≡ 1 = ap {B = ℕ} (λ (b : Bool). cond b 1 0) (lt-ltb t end lt) in omega (arith, one))
+  | inr ge ↦ (let none : below end (Some t) ≡ 0 = ap {B = ℕ} (λ (b : Bool). cond b 1 0) (le-ltb t end ge) in omega (arith, none))
+]

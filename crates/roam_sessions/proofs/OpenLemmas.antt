@@ -1,5 +1,5 @@
 -- Which sessions are open, where an Accounting-On ended others.
-use Rattle.std.proofs.Common.{◌≡◌, ◌≢◌, ◌⊎◌, ℕ, ◌+◌, ◌-◌, ◌≤◌, ◌==◌, true, false, List, [], ◌∷◌, ◌++◌, length, Option, Some, None, refl, sym, ap, ◌∙◌, subst, inl, inr, arith}
+use Rattle.std.proofs.Common.{◌≡◌, ◌≢◌, ◌⊎◌, ℕ, ◌+◌, ◌-◌, ◌<◌, ◌≤◌, ◌==◌, true, false, List, [], ◌∷◌, ◌++◌, length, Option, Some, None, refl, sym, ap, ◌∙◌, subst, inl, inr, arith}
 use Rattle.std.specs.Prelude.{IsSome, filter, is_some, not}
 use Rattle.std.specs.List.{cons_option}
 use Rattle.std.proofs.lemmas.Bool.{cases_Bool, cases_eq, not_from_false, not_from_true}
@@ -178,13 +178,13 @@ module _ (e : Ended) (F G : ℕ → Option Session) where
     | inr ne ↦ (open-goes t goes).others u ne
   ])
 
-  pub open-comes : (next : ℕ) (s : Session) → AreTickets F next → e.before ≤ next → PutsAt F G next (Some s)
-      → all_listed (open_of e G) ≡ all_listed (open_of e F) ++ s ∷ []
-  open-comes next s are before puts =
-      listed-last (open_of e F) (open_of e G) 0 tickets_end next s
-      (open-where e G next s puts.changed (not-before e next s before))
+  pub open-comes : (next n : ℕ) (s : Session) → AreTickets F next → e.before ≤ next → next ≤ n → n < tickets_end
+      → PutsAt F G n (Some s) → all_listed (open_of e G) ≡ all_listed (open_of e F) ++ s ∷ []
+  open-comes next n s are before from within puts =
+      listed-last (open_of e F) (open_of e G) 0 tickets_end n s
+      (open-where e G n s puts.changed (not-before e n s (omega (arith, before, from))))
       (λ u ne. ap (unless_ended e u) (puts.others u ne))
-      (λ u le. none-open e F u (are.given u le)) (omega arith) (let w = are.within in omega (arith, w))
+      (λ u le. none-open e F u (are.given u (omega (arith, le, from)))) (omega arith) (omega (arith, within))
 
 pub some-few : {X : Type 0} (o : Option X) → some_count o ≤ 1
 some-few None = omega arith

@@ -11,23 +11,24 @@ use Rattle.roam_sessions.proofs.SameLemmas.{differ-apart, same-is, same-itself}
 use Rattle.roam_sessions.proofs.ListLemmas.{listed-distinct}
 
 module _ (F G : ℕ → Option Session) where
-  pub tickets-come : (next : ℕ) (s : Session) → AreTickets F next → ((t : ℕ) → F t ≢ Some s)
-      → PutsAt F G next (Some s) → next + 1 < tickets_end → AreTickets G (next + 1)
-  tickets-come next s are absent puts within = record {
+  pub tickets-come : (next n later : ℕ) (s : Session) → AreTickets F next → ((t : ℕ) → F t ≢ Some s) → next ≤ n
+      → PutsAt F G n (Some s) → n < later → later < tickets_end → AreTickets G later
+  tickets-come next n later s are absent from puts behind within = record {
     distinct = apart;
-    given = λ t le. puts.others t (λ e. absurd (omega (arith, le, e))) ∙ are.given t (omega (arith, le));
+    given = λ t le. puts.others t (λ e. absurd (omega (arith, le, e, behind)))
+        ∙ are.given t (omega (arith, le, from, behind));
     within = within;
   }
     where
       apart : (t u : ℕ) (x : Session) → G t ≡ Some x → G u ≡ Some x → t ≡ u
-      apart t u x a b = elim (cases_eq t next) [
-        | inl first ↦ elim (cases_eq u next) [
+      apart t u x a b = elim (cases_eq t n) [
+        | inl first ↦ elim (cases_eq u n) [
           | inl second ↦ first ∙ sym second
           | inr ne ↦ absurd (
               let here : Some s ≡ Some x = sym (ap G first ∙ puts.changed) ∙ a in
               absent u (sym (puts.others u ne) ∙ b ∙ sym here))
         ]
-        | inr ne ↦ elim (cases_eq u next) [
+        | inr ne ↦ elim (cases_eq u n) [
           | inl second ↦ absurd (
               let here : Some s ≡ Some x = sym (ap G second ∙ puts.changed) ∙ b in
               absent t (sym (puts.others t ne) ∙ a ∙ sym here))

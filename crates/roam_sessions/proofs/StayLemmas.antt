@@ -1,7 +1,7 @@
 -- Sessions stay where their neighbours change.
 use Rattle.std.proofs.Common.{ℕ, Option, Some, None, refl, sym, ap, ◌∙◌, subst}
 use Rattle.std.specs.Prelude.{IsSome, option_map}
-use Rattle.indexmap.specs.IndexMap.{IndexMap}
+use Rattle.slab.specs.Slab.{Slab}
 use Rattle.roam_wire.specs.Numbered.{PutsAt}
 use Rattle.roam_sessions.specs.Maps.{SessionsStay, session_of}
 use Rattle.roam_sessions.specs.Private.Links.{beside_of, no_beside, no_links}
@@ -11,11 +11,11 @@ use Rattle.roam_sessions.specs.declared.links.Links.{Links}
 use Rattle.roam_sessions.specs.declared.session_map.LinkedSession.{LinkedSession}
 use Rattle.roam_sessions.proofs.LinkLemmas.{no-beside}
 
-module _ {A H : Type 0} (m : IndexMap ℕ (LinkedSession A) H) where
+module _ {A : Type 0} (m : Slab (LinkedSession A)) where
   pub still : SessionsStay m m
   still = record { sessions = λ t. refl; len = refl; room = refl }
 
-module _ {A H : Type 0} (m n o : IndexMap ℕ (LinkedSession A) H) where
+module _ {A : Type 0} (m n o : Slab (LinkedSession A)) where
   pub both-stay : SessionsStay m n → SessionsStay n o → SessionsStay m o
   both-stay first second = record {
     sessions = λ t. second.sessions t ∙ first.sessions t;
@@ -23,13 +23,13 @@ module _ {A H : Type 0} (m n o : IndexMap ℕ (LinkedSession A) H) where
     room = second.room ∙ first.room;
   }
 
-module _ {A H : Type 0} {m n o p q r s : IndexMap ℕ (LinkedSession A) H} where
+module _ {A : Type 0} {m n o p q r s : Slab (LinkedSession A)} where
   pub all-stay : SessionsStay m n → SessionsStay n o → SessionsStay o p → SessionsStay p q → SessionsStay q r
       → SessionsStay r s → SessionsStay m s
   all-stay one two three four five six =
       both-stay m n s one (both-stay n o s two (both-stay o p s three (both-stay p q s four (both-stay q r s five six))))
 
-module _ {A H : Type 0} (m n : IndexMap ℕ (LinkedSession A) H) (stay : SessionsStay m n) where
+module _ {A : Type 0} (m n : Slab (LinkedSession A)) (stay : SessionsStay m n) where
   -- what was put before, or is put behind, while sessions stay
   pub put-before : (F : ℕ → Option Session) (t : ℕ) (w : Option Session) → PutsAt F (session_of m) t w
       → PutsAt F (session_of n) t w

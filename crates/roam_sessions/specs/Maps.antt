@@ -1,12 +1,14 @@
 -- The meaning of the code's maps (ours).
-use Rattle.std.specs.Prelude.{◌≡◌, ℕ, ◌≤◌, false, List, Option, option_map, nat_eq}
+use Rattle.std.specs.Prelude.{◌≡◌, ℕ, ◌-◌, ◌≤◌, ◌==◌, min, false, List, Option, Some, None, option_and_then, option_map, nat_eq, if◌then◌else◌}
 use Rattle.std.specs.Cmp.Lexicographic.{pointwise}
 use Rattle.indexmap.specs.IndexMap as map
-use Rattle.indexmap.specs.IndexMap.{IndexMap, index_map_len, spare}
+use Rattle.indexmap.specs.IndexMap.{IndexMap, spare}
+use Rattle.slab.specs.Slab.{Slab, get, slab_len}
 use Rattle.roam_sessions.specs.Kept.{kept_session}
 use Rattle.roam_sessions.specs.Private.Buckets.{in_bucket}
 use Rattle.roam_sessions.specs.Private.Groups.{PlainGroups}
 use Rattle.roam_sessions.specs.Private.Links.{beside_of, is_facet}
+use Rattle.roam_sessions.specs.Private.Places.{place_of}
 use Rattle.roam_sessions.specs.Sessions.{Session}
 use Rattle.roam_sessions.specs.declared.ends.Ends.{Ends}
 use Rattle.roam_sessions.specs.declared.neighbours.Beside.{Beside}
@@ -36,26 +38,37 @@ beside_at m t = map.get nat_eq m t
 abbrev pub linked_session : {A : Type 0} → LinkedSession A → Session
 linked_session linked = kept_session linked.session
 
--- the neighbours of a number in all its groups, and in that of a facet
-abbrev pub links_at : {A H : Type 0} → IndexMap ℕ (LinkedSession A) H → ℕ → Option Links
-links_at m t = option_map (λ s. s.links) (map.get nat_eq m t)
+-- a row, where its ticket is this one; the row of a ticket, at the place that it names
+abbrev pub if_ticket : {A : Type 0} → ℕ → LinkedSession A → Option (LinkedSession A)
+if_ticket t row = if row.ticket == t then Some row else None
 
-abbrev pub linked_at : {A H : Type 0} → Facet → IndexMap ℕ (LinkedSession A) H → ℕ → Option Beside
+abbrev pub linked_row : {A : Type 0} → Slab (LinkedSession A) → ℕ → Option (LinkedSession A)
+linked_row m t = option_and_then (if_ticket t) (get m (place_of t))
+
+-- for how many rows more there is room, each at a place that a ticket can name: one, or none
+abbrev pub row_room : {A : Type 0} → Slab (LinkedSession A) → ℕ
+row_room m = min 1 (min (1048576 - m.vacant_key) (m.capacity - slab_len m))
+
+-- the neighbours of a number in all its groups, and in that of a facet
+abbrev pub links_at : {A : Type 0} → Slab (LinkedSession A) → ℕ → Option Links
+links_at m t = option_map (λ s. s.links) (linked_row m t)
+
+abbrev pub linked_at : {A : Type 0} → Facet → Slab (LinkedSession A) → ℕ → Option Beside
 linked_at facet m t = option_map (beside_of facet) (links_at m t)
 
-abbrev pub linked_by : {A H : Type 0} → IndexMap ℕ (LinkedSession A) H → Facet → ℕ → Option Beside
+abbrev pub linked_by : {A : Type 0} → Slab (LinkedSession A) → Facet → ℕ → Option Beside
 linked_by m facet = linked_at facet m
 
 -- the groups of a facet
-abbrev pub linked : {Z A H I : Type 0} → Facet → IndexMap (KeptRow Z) Ends H → IndexMap ℕ (LinkedSession A) I → PlainGroups
+abbrev pub linked : {Z A H : Type 0} → Facet → IndexMap (KeptRow Z) Ends H → Slab (LinkedSession A) → PlainGroups
 linked facet ends links = record { ends = ends_at ends; beside = linked_at facet links }
 
 -- the groups of buckets
-abbrev pub chained : {A H I : Type 0} → Facet → IndexMap ℕ Ends H → IndexMap ℕ (LinkedSession A) I → PlainGroups
+abbrev pub chained : {A H : Type 0} → Facet → IndexMap ℕ Ends H → Slab (LinkedSession A) → PlainGroups
 chained facet ends links = record { ends = in_bucket (ends_by ends); beside = linked_at facet links }
 
 -- the neighbours in the groups of all other facets stay
-abbrev pub OthersStay : {A H : Type 0} → Facet → IndexMap ℕ (LinkedSession A) H → IndexMap ℕ (LinkedSession A) H → Type 0
+abbrev pub OthersStay : {A : Type 0} → Facet → Slab (LinkedSession A) → Slab (LinkedSession A) → Type 0
 OthersStay facet m n =
     (other : Facet) → is_facet other facet ≡ false → (u : ℕ) → linked_at other n u ≡ linked_at other m u
 
@@ -68,11 +81,11 @@ pub record HasRoom {A : Type 0} (n : ℕ) (g : Groups A) : Type 0 where
   pub beside : n ≤ spare g.beside
 
 -- the session of a ticket
-abbrev pub session_of : {A H : Type 0} → IndexMap ℕ (LinkedSession A) H → ℕ → Option Session
-session_of m t = option_map linked_session (map.get nat_eq m t)
+abbrev pub session_of : {A : Type 0} → Slab (LinkedSession A) → ℕ → Option Session
+session_of m t = option_map linked_session (linked_row m t)
 
 -- the sessions stay, whatever their neighbours are
-pub record SessionsStay {A H : Type 0} (m n : IndexMap ℕ (LinkedSession A) H) : Type 0 where
+pub record SessionsStay {A : Type 0} (m n : Slab (LinkedSession A)) : Type 0 where
   pub sessions : (t : ℕ) → session_of n t ≡ session_of m t
-  pub len : index_map_len n ≡ index_map_len m
-  pub room : spare n ≡ spare m
+  pub len : slab_len n ≡ slab_len m
+  pub room : row_room n ≡ row_room m

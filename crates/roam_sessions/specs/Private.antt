@@ -6,3 +6,4 @@ pub mod Buckets
 pub mod Tickets
 pub mod Groups
 pub mod Links
+pub mod Places

@@ -7,8 +7,7 @@ ghost use Rattle.roam_sessions.specs.Private.Tickets.{IsOneOf, NoneBefore};
 ghost use Rattle.roam_sessions.specs.Sessions.{agrees, has_most, within, without_first};
 ghost use Rattle.roam_sessions.specs.Kept.{kept_session, shown_asked, shown_session};
 ghost use Rattle.roam_sessions.specs.Parts.{shown_parts};
-ghost use Rattle.roam_sessions.specs.Stands.{IsSound, session_at, session_count, sessions_of};
-ghost use Rattle.indexmap.specs.IndexMap.{spare};
+ghost use Rattle.roam_sessions.specs.Stands.{IsSound, next_ticket, session_at, session_count, sessions_of};
 ghost use Rattle.roam_wire.specs.Numbered.{PutsAt};
 
 use crate::asked::{AskedRef, SessionRef};
@@ -16,10 +15,10 @@ use crate::facets::Facets;
 use crate::open_session::NewSession;
 use crate::parts::SessionParts;
 use crate::session::SessionArray;
-use crate::session_map::SessionMap;
-use indexmap::IndexMap;
+use crate::session_map::{PLACES, SessionMap, linked_row, reserve, ticket_at};
 use roam_random::HashKey;
 use roam_wire::NoMemory;
+use slab::Slab;
 use std::alloc::Allocator;
 
 /// Sessions in the order in which they were opened. Each has a ticket, and these rise. They are found by all that they
@@ -27,7 +26,7 @@ use std::alloc::Allocator;
 pub(crate) struct Chain<A: Allocator> {
     pub(crate) by_ticket: SessionMap<A>,
     pub(crate) of_peer: Facets<A>,
-    /// The ticket of the session that is opened next.
+    /// The tickets of sessions that are opened next are from this number on, which names the first place.
     pub(crate) next: u64,
     /// The number of sessions for which more room was made.
     pub(crate) spare: usize,
@@ -53,7 +52,7 @@ impl<A: Allocator + Copy> Chain<A> {
         ensures empty { sessions_of result ≡ [] }
     {
         Chain {
-            by_ticket: IndexMap::new(alloc),
+            by_ticket: Slab::new(alloc),
             of_peer: Facets::new(alloc, key, limit),
             next: 0,
             spare: 0,
@@ -67,8 +66,8 @@ impl<A: Allocator + Copy> Chain<A> {
         self.by_ticket.len()
     }
 
-    /// Makes room for one session more. No session changes. There is none once the tickets are used
-    /// up, after 2^64 - 1 sessions, which isn't reached.
+    /// Makes room for one session more. No session changes. There is none once the tickets are used up, after 2^44 - 1
+    /// sessions, which isn't reached: it takes fifty years of 10,000 sessions a second.
     pub(crate) fn reserve(&mut self) -> Result<(), NoMemory>
         requires { IsSound self.old }
         ensures sound { IsSound self.new }
@@ -83,10 +82,10 @@ impl<A: Allocator + Copy> Chain<A> {
         if self.spare > 0 {
             return Ok(());
         }
-        if self.next == u64::MAX {
+        if self.next > u64::MAX - PLACES {
             return Err(NoMemory);
         }
-        self.by_ticket.reserve(1)?;
+        reserve(&mut self.by_ticket)?;
         self.of_peer.reserve()?;
         self.spare = 1;
         Ok(())
@@ -100,14 +99,14 @@ impl<A: Allocator + Copy> Chain<A> {
         ensures sound { IsSound self.new }
         ensures sessions { sessions_of self.new
             ≡ sessions_of self.old ++ kept_session new.session ∷ [] }
-        ensures puts { PutsAt (session_at self.old) (session_at self.new) self.old.next
+        ensures puts { PutsAt (session_at self.old) (session_at self.new) (next_ticket self.old)
             (Some (kept_session new.session)) }
-        ensures next { self.new.next ≡ self.old.next + 1 }
+        ensures next { next_ticket self.old < self.new.next }
         ensures count { session_count self.new ≡ session_count self.old + 1 }
     {
-        let ticket = self.next;
+        let ticket = self.next + self.by_ticket.vacant_key() as u64;
         self.of_peer.append(&mut self.by_ticket, ticket, new);
-        self.next = ticket + 1;
+        self.next += PLACES;
         self.spare -= 1;
     }
 
@@ -175,17 +174,19 @@ impl<A: Allocator + Copy> Chain<A> {
 
     /// Adds the tickets of all sessions, in no order.
     pub(crate) fn add_tickets(&self, tickets: &mut Vec<u64, A>) -> Result<(), NoMemory> {
-        match tickets.extend_from_slice(self.by_ticket.keys().as_slice()) {
-            Ok(()) => Ok(()),
-            Err(_) => Err(NoMemory),
+        for place in 0..self.by_ticket.capacity() {
+            if let Some(ticket) = ticket_at(&self.by_ticket, place) {
+                tickets.push(ticket)?;
+            }
         }
+        Ok(())
     }
 
     /// Returns the session of a ticket, where it lies.
     pub(crate) fn session(&self, ticket: u64) -> Option<SessionRef<'_>>
         ensures { option_map shown_session result ≡ session_at self.now ticket }
     {
-        match self.by_ticket.get(&ticket) {
+        match linked_row(&self.by_ticket, ticket) {
             Some(linked) => Some(linked.session.lend()),
             None => None,
         }
@@ -195,7 +196,7 @@ impl<A: Allocator + Copy> Chain<A> {
     pub(crate) fn parts_of(&self, ticket: u64) -> Option<SessionParts<'_>>
         ensures { option_map shown_parts result ≡ session_at self.now ticket }
     {
-        match self.by_ticket.get(&ticket) {
+        match linked_row(&self.by_ticket, ticket) {
             Some(linked) => Some(linked.session.parts()),
             None => None,
         }

@@ -8,10 +8,11 @@ ghost use Rattle.roam_sessions.specs.Private.Row.{row_text};
 ghost use Rattle.roam_sessions.specs.Private.Tickets.{IsOneOf, NoneBefore, all_listed};
 ghost use Rattle.roam_sessions.specs.Sessions.{Session, agrees};
 ghost use Rattle.roam_sessions.specs.Kept.{kept_session, shown_asked, shown_session};
-ghost use Rattle.roam_sessions.specs.Maps.{HasRoom, ends_at, groups_of, linked_by, session_of};
+ghost use Rattle.roam_sessions.specs.Maps.{HasRoom, ends_at, groups_of, linked_by, row_room, session_of};
+ghost use Rattle.roam_sessions.specs.Private.Places.{place_of};
 ghost use Rattle.roam_sessions.specs.declared.links.Facet.{Facet};
 ghost use Rattle.roam_sessions.specs.declared.neighbours.Beside.{Beside};
-ghost use Rattle.indexmap.specs.IndexMap.{index_map_len, spare};
+ghost use Rattle.slab.specs.Slab.{slab_len};
 ghost use Rattle.roam_wire.specs.Numbered.{PutsAt};
 
 use crate::asked::{AskedRef, SessionRef};
@@ -130,17 +131,17 @@ impl<A: Allocator + Copy> Facets<A> {
         self.by_all.reserve()
     }
 
-    /// Puts a session with its rows and in its buckets last, where there is room. Takes no memory.
+    /// Puts a session with its rows and in its buckets last, at the free place, which its ticket names. Takes no memory.
     pub(crate) fn append(&mut self, map: &mut SessionMap<A>, ticket: u64, new: NewSession<A>)
         requires facets { FacetsHaveRoom 1 self.old }
-        requires room { 0 < spare map.old }
-        requires free { session_of map.old ticket ≡ None }
+        requires room { 0 < row_room map.old }
+        requires place { place_of ticket ≡ map.old.vacant_key }
         ensures faceted { (F G : ℕ → Option Session) → AreFaceted F self.old (linked_by map.old)
             → ComesIn F G ticket (kept_session new.session) → AreFaceted G self.new (linked_by map.new) }
         ensures sessions { PutsAt (session_of map.old) (session_of map.new) ticket (Some (kept_session new.session)) }
-        ensures len { index_map_len map.new ≡ index_map_len map.old + 1 }
+        ensures len { slab_len map.new ≡ slab_len map.old + 1 }
         ensures room { (n : ℕ) → FacetsHaveRoom (n + 1) self.old → FacetsHaveRoom n self.new }
-        ensures map_room { spare map.old ≤ spare map.new + 1 }
+        ensures map_room { row_room map.old ≤ row_room map.new + 1 }
     {
         let places = self.buckets.places(new.session.lend());
         let rows = new.of_peer;
@@ -177,9 +178,9 @@ impl<A: Allocator + Copy> Facets<A> {
             → F ticket ≡ Some (shown_session session.entry) → PutsAt F G ticket None
             → AreFaceted G self.new (linked_by map.new) }
         ensures sessions { PutsAt (session_of map.old) (session_of map.new) ticket None }
-        ensures len { index_map_len map.new + 1 ≡ index_map_len map.old }
+        ensures len { slab_len map.new + 1 ≡ slab_len map.old }
         ensures room { (n : ℕ) → FacetsHaveRoom n self.old → FacetsHaveRoom n self.new }
-        ensures map_room { spare map.old ≤ spare map.new }
+        ensures map_room { row_room map.old ≤ row_room map.new }
     {
         let by_peer = session.narrowed(mask(false, false, false, false));
         part(&mut self.by_peer, map, Facet::Peer, ticket, by_peer);

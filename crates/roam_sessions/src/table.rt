@@ -110,7 +110,7 @@ impl<A: Allocator + Copy> Table<A> {
         !self.ended.ends(ticket, new.session.lend())
     }
 
-    /// Makes room for one session more. No session changes. There is none once the tickets are used up, after 2^64 - 1
+    /// Makes room for one session more. No session changes. There is none once the tickets are used up, after 2^44 - 1
     /// sessions, which isn't reached.
     pub(crate) fn reserve(&mut self) -> Result<(), NoMemory>
         requires { IsTable self.old }

@@ -39,5 +39,6 @@ returns-clause-sound g c =
         by_ticket = omega (arith, sound.room.by_ticket, c.remove.ensures.map_room);
         of_peer = c.remove.ensures.room c.args.self.now.spare sound.room.of_peer;
       };
+      places = sound.places;
       ticket_room = sound.ticket_room;
     }
