@@ -5,14 +5,14 @@ ghost use Rattle.roam_conf.specs.Shown.{shown};
 ghost use Rattle.roam_reload.specs.Reload.{MayFollow};
 
 use crate::configured::Configured;
+use crate::host::Host;
 use crate::keeping::Dues;
 use crate::losing::objection;
 use crate::manner::StateFile;
 use crate::next::{Next, following_of, prepare_next};
 use crate::overview::Overview;
 use crate::source::{Following, Source};
-use log::Log;
-use roam_admin::{Course, Desk, FileOrder, Order, Reply, done, grace, plain_reply};
+use roam_admin::{AdminReply, AdminRequest, FileOrder, ReplyStatus, done, grace, plain_reply};
 use roam_counters::Process;
 use roam_history::{Opened, Seat};
 use roam_log::ReloadEnd;
@@ -22,14 +22,10 @@ use roam_outgoing::ThreadCounts;
 use roam_sockets::{BoundSocket, now};
 use roam_workers::{HubCalls, Shared};
 use std::alloc::{AllocError, Global};
-use std::net::Net;
-use std::sync::Wait;
-use std::thread::Threads;
-use std::time::Clock;
 
 /// The means of the server's own thread while the others serve.
 #[derive(Drop)]
-pub struct Attendant<'s, 'c, R, H, N: Opened> {
+pub struct AdminThread<'s, 'c, R, H, N: Opened> {
     pub rt: &'s R,
     pub shared: &'s Shared<'s, 'c, H, N>,
     pub sockets: &'s [BoundSocket],
@@ -45,15 +41,15 @@ pub struct Attendant<'s, 'c, R, H, N: Opened> {
     pub order: Option<&'s FileOrder>,
 }
 
-impl<'s, 'c, R, H, N: Opened> Attendant<'s, 'c, R, H, N> {
+impl<'s, 'c, R, H, N: Opened> AdminThread<'s, 'c, R, H, N> {
     /// Returns what it has at first.
     pub fn new(
         rt: &'s R,
         shared: &'s Shared<'s, 'c, H, N>,
         configured: &'s Configured,
         seat: Seat<Global, N>,
-    ) -> Attendant<'s, 'c, R, H, N> {
-        Attendant {
+    ) -> AdminThread<'s, 'c, R, H, N> {
+        AdminThread {
             rt,
             shared,
             sockets: configured.sockets.as_slice(),
@@ -67,24 +63,18 @@ impl<'s, 'c, R, H, N: Opened> Attendant<'s, 'c, R, H, N> {
 }
 
 /// Makes an answer with nothing in it.
-pub(crate) fn bare(alloc: Global, course: Course) -> Reply {
-    plain_reply(course, Vec::new(alloc))
+pub(crate) fn bare(alloc: Global, status: ReplyStatus) -> AdminReply {
+    plain_reply(status, Vec::new(alloc))
 }
 
 /// Returns what is answered to who has the server stop.
-pub fn stopping(alloc: Global) -> Reply {
+pub fn stopping(alloc: Global) -> AdminReply {
     let mut body = Vec::new(alloc);
     let _is_said = body.extend_from_slice(b"stopping\n").is_ok();
-    plain_reply(Course::Begun, body)
+    plain_reply(ReplyStatus::Begun, body)
 }
 
-impl<R: Threads + Wait + Clock + Net + Log + Sync, H: HubCalls<N>, N: Opened> Attendant<
-    '_,
-    '_,
-    R,
-    H,
-    N,
-> {
+impl<R: Host, H: HubCalls<N>, N: Opened> AdminThread<'_, '_, R, H, N> {
     /// Returns the counts of this thread, which are the timer's too.
     fn counts(&self) -> Option<ThreadCounts<'_>> {
         let shared = self.shared;
@@ -105,23 +95,23 @@ impl<R: Threads + Wait + Clock + Net + Log + Sync, H: HubCalls<N>, N: Opened> At
     }
 
     /// Answers with the counts, as the page of metrics.
-    fn metrics(&self) -> Result<Reply, AllocError> {
-        let about = self.shared.office.about(self.now);
+    fn metrics(&self) -> Result<AdminReply, AllocError> {
+        let about = self.shared.admin.about(self.now);
         match self.look()? {
             Some(standing) => {
                 let page = page(self.shared.alloc, self.shared.config, &standing, &about)?;
                 Ok(done(page))
             }
-            None => Ok(bare(self.shared.alloc, Course::Unknown)),
+            None => Ok(bare(self.shared.alloc, ReplyStatus::Unknown)),
         }
     }
 
     /// Returns how the server stands.
-    fn status(&self, form: StatusForm) -> Result<Reply, AllocError> {
+    fn status(&self, form: StatusForm) -> Result<AdminReply, AllocError> {
         let Some(standing) = self.look()? else {
-            return Ok(bare(self.shared.alloc, Course::Unknown));
+            return Ok(bare(self.shared.alloc, ReplyStatus::Unknown));
         };
-        let about = self.shared.office.about(self.now);
+        let about = self.shared.admin.about(self.now);
         let body = status(
             self.shared.alloc,
             self.shared.config,
@@ -133,7 +123,7 @@ impl<R: Threads + Wait + Clock + Net + Log + Sync, H: HubCalls<N>, N: Opened> At
     }
 
     /// Has the server take no request any more, and end when those that wait had time to be answered.
-    fn stop(&self) -> Reply {
+    fn stop(&self) -> AdminReply {
         let shared = self.shared;
         shared.stopping.ask();
         let end = self.now.saturating_add(grace(shared.config));
@@ -158,14 +148,14 @@ impl<R: Threads + Wait + Clock + Net + Log + Sync, H: HubCalls<N>, N: Opened> At
             if let Ok(steps) = self.shared.hub.let_go(self.rt, &mut self.seat, shard) {
                 if !steps.is_empty() {
                     self.count_gone(shard, steps.len());
-                    self.shared.old_history.hand_over(self.rt, steps);
+                    self.shared.reclaimer.hand_over(self.rt, steps);
                 }
             }
         }
     }
 
     /// Returns the configuration that is to follow, to which nobody objects, or why none follows.
-    fn agreed_of<S: Source>(&self, source: &mut S, is_agreed: bool) -> Result<Following, Reply>
+    fn agreed_of<S: Source>(&self, source: &mut S, is_agreed: bool) -> Result<Following, AdminReply>
         ensures { IfOk result (λ following. MayFollow N.opening.config (shown following.config)) }
     {
         let following = following_of(self.shared, source)?;
@@ -180,7 +170,7 @@ impl<R: Threads + Wait + Clock + Net + Log + Sync, H: HubCalls<N>, N: Opened> At
 
     /// Returns the configuration that is to follow, to which nobody objects, with all that the server needs for it,
     /// and whether it was agreed to; or why none follows.
-    fn next_of<S: Source>(&self, source: &mut S, is_agreed: bool) -> Result<Next, Reply>
+    fn next_of<S: Source>(&self, source: &mut S, is_agreed: bool) -> Result<Next, AdminReply>
         ensures may { IfOk result (λ next. MayFollow N.opening.config (shown next.configured.config)) }
         ensures agreed { IfOk result (λ next. next.is_agreed ≡ is_agreed) }
     {
@@ -190,64 +180,69 @@ impl<R: Threads + Wait + Clock + Net + Log + Sync, H: HubCalls<N>, N: Opened> At
         Ok(next)
     }
 
-    /// Answers an order, unless a configuration comes by it that is to follow.
-    fn attend_to<S: Source>(&mut self, desk: &Desk, order: Order, source: &mut S) -> Option<Next>
+    /// Has a configuration come that is to follow, or answers why none does.
+    fn reload<S: Source>(&mut self, source: &mut S, is_agreed: bool) -> Result<Next, AdminReply>
+        ensures may { IfOk result (λ next. MayFollow N.opening.config (shown next.configured.config)) }
+        ensures agreed { IfOk result (λ next. next.is_agreed ≡ is_agreed) }
+    {
+        match self.next_of(source, is_agreed) {
+            Ok(next) => {
+                self.let_go_all();
+                Ok(next)
+            }
+            Err(reply) => {
+                tell_reload(self.rt, ReloadEnd::Declined, reply.body.as_slice());
+                self.shared.admin.count_reload(reply.status, self.now);
+                Err(reply)
+            }
+        }
+    }
+
+    /// Answers a request through the control socket, unless a configuration comes by it that is to follow.
+    fn answer<S: Source>(&mut self, request: AdminRequest, source: &mut S) -> Option<Next>
         ensures may { IfSome result (λ next.
             MayFollow N.opening.config (shown next.configured.config)) }
-        ensures agreed { IfSome result (λ next. order ≡ Order.Reload next.is_agreed) }
+        ensures agreed { IfSome result (λ next. request ≡ AdminRequest.Reload next.is_agreed) }
     {
         self.now = now(self.rt, self.shared.start, self.now);
-        let reply = match order {
-            Order::Metrics => self.metrics(),
-            Order::Status(form) => self.status(form),
-            Order::Stop => Ok(self.stop()),
-            Order::Trace(shard) => self.trace(shard),
-            Order::Reload(is_agreed) => {
-                match self.next_of(source, is_agreed) {
-                    Ok(next) => {
-                        self.let_go_all();
-                        return Some(next);
-                    }
-                    Err(reply) => {
-                        tell_reload(self.rt, ReloadEnd::Declined, reply.body.as_slice());
-                        self.shared.office.count_reload(reply.course, self.now);
-                        Ok(reply)
-                    }
-                }
-            }
+        let reply = match request {
+            AdminRequest::Metrics => self.metrics(),
+            AdminRequest::Status(form) => self.status(form),
+            AdminRequest::Stop => Ok(self.stop()),
+            AdminRequest::Trace(shard) => self.trace(shard),
+            AdminRequest::Reload(is_agreed) => match self.reload(source, is_agreed) {
+                Ok(next) => return Some(next),
+                Err(reply) => Ok(reply),
+            },
         };
-        let reply = reply.unwrap_or(bare(self.shared.alloc, Course::Unavailable));
-        desk.answer(self.rt, reply);
+        let reply = reply.unwrap_or(bare(self.shared.alloc, ReplyStatus::Unavailable));
+        self.shared.admin.control.answer(self.rt, reply);
         None
     }
 
-    /// Answers who asks at a desk, unless a configuration comes by it that is to follow.
-    fn attend_at<S: Source>(&mut self, desk: &Desk, source: &mut S) -> Option<Next>
+    /// Answers who asks for the counts at the endpoint of metrics.
+    fn answer_metrics(&mut self) {
+        if self.shared.admin.metrics.request(self.rt).is_none() {
+            return;
+        }
+        self.now = now(self.rt, self.shared.start, self.now);
+        let reply = self.metrics();
+        let reply = reply.unwrap_or(bare(self.shared.alloc, ReplyStatus::Unavailable));
+        self.shared.admin.metrics.answer(self.rt, reply);
+    }
+
+    /// Answers who asks in either queue, unless a configuration comes by it that is to follow.
+    fn poll<S: Source>(&mut self, source: &mut S) -> Option<Next>
         ensures { IfSome result (λ next.
             MayFollow N.opening.config (shown next.configured.config)) }
     {
-        let order = desk.order(self.rt)?;
-        self.attend_to(desk, order, source)
-    }
-
-    /// Answers who asks for the counts. No configuration comes by that.
-    fn attend_metrics<S: Source>(&mut self, source: &mut S) {
-        let office = self.shared.office;
-        let _never = self.attend_at(&office.metrics, source);
-    }
-
-    /// Answers who asks at either desk, unless a configuration comes by it that is to follow.
-    fn attend_both<S: Source>(&mut self, source: &mut S) -> Option<Next>
-        ensures { IfSome result (λ next.
-            MayFollow N.opening.config (shown next.configured.config)) }
-    {
-        self.attend_metrics(source);
-        let office = self.shared.office;
-        self.attend_at(&office.control, source)
+        self.answer_metrics();
+        let request = self.shared.admin.control.request(self.rt)?;
+        self.answer(request, source)
     }
 
     /// Answers who asks, and keeps the ledgers of sessions, until the threads end or another configuration follows.
-    pub fn attend<S: Source>(&mut self, source: &mut S) -> Option<Next>
+    pub fn run<S: Source>(&mut self, source: &mut S) -> Option<Next>
         ensures { IfSome result (λ next.
             MayFollow N.opening.config (shown next.configured.config)) }
     {
@@ -257,7 +252,7 @@ impl<R: Threads + Wait + Clock + Net + Log + Sync, H: HubCalls<N>, N: Opened> At
                 self.tell_dropped_at_end();
                 return None;
             }
-            if let Some(next) = self.attend_both(source) {
+            if let Some(next) = self.poll(source) {
                 return Some(next);
             }
             self.keep_and_rest(source);

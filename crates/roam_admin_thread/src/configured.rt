@@ -1,7 +1,7 @@
 //! A configuration that is served, with what belongs to it alone.
 
 use crate::manner::Manner;
-use roam_admin::Reply;
+use roam_admin::AdminReply;
 use roam_conf::Config;
 use roam_outgoing::Counters;
 use roam_sockets::BoundSocket;
@@ -34,7 +34,7 @@ impl Drop for Configured {
 /// The part of a change that waits until the threads run again: it holds nobody up then.
 pub struct Handover {
     /// The answer to whoever asked for the configuration.
-    pub reply: Option<Reply>,
+    pub reply: Option<AdminReply>,
     /// The configuration that isn't served any more, with its descriptors.
     pub before: Option<Configured>,
     /// True where whoever asked for it still waits for the answer.
@@ -56,7 +56,7 @@ impl Drop for Handover {
 
 impl Handover {
     /// Returns the answer, the configuration of before, and whether the one that asked still waits.
-    pub fn into_parts(self) -> (Option<Reply>, Option<Configured>, bool) {
+    pub fn into_parts(self) -> (Option<AdminReply>, Option<Configured>, bool) {
         let Self {
             reply,
             before,

@@ -5,7 +5,7 @@ ghost use Rattle.roam_history.specs.Books.{count_of};
 ghost use Rattle.roam_sockets.specs.Faults.{IsAfterBinding};
 
 use crate::configured::Configured;
-use crate::kits::{Kits, make_kits};
+use crate::thread_parts::{Kits, make_kits};
 use roam_history::Blanks;
 use roam_sockets::ServeFault;
 use roam_workers::Rests;

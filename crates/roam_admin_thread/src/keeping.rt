@@ -2,8 +2,8 @@
 
 ghost use Rattle.std.specs.Prelude.{◌≡◌, ◌≤◌, ◌↔◌, ◌+◌, ◌-◌, ◌^◌, min, IsFalse, IsTrue};
 
-use crate::attending::Attendant;
-use crate::hub_end::HubEnd;
+use crate::attending::AdminThread;
+use crate::epoch_end::EpochEnd;
 use crate::saving::ledgers_of;
 use crate::source::{Keeping, Source};
 use log::Log;
@@ -86,7 +86,7 @@ impl Dues {
     }
 }
 
-impl<R: Wait + Clock + Log, H: HubCalls<N>, N: Opened> Attendant<'_, '_, R, H, N> {
+impl<R: Wait + Clock + Log, H: HubCalls<N>, N: Opened> AdminThread<'_, '_, R, H, N> {
     /// Hands the ledgers of all realms as they stand to who keeps them at this path. Returns what becomes of them.
     fn hand_over<S: Source>(&self, path: &str, source: &mut S) -> Keeping {
         match ledgers_of(self.rt, self.shared, &self.seat) {
@@ -173,7 +173,7 @@ impl<R: Wait + Clock + Log, H: HubCalls<N>, N: Opened> Attendant<'_, '_, R, H, N
 
     /// Keeps them as they stand then, where the server ends. Where they aren't kept, that is told with what is lost by
     /// it.
-    pub fn keep_at_end<S: Source>(&self, end: &HubEnd, source: &mut S) {
+    pub fn keep_at_end<S: Source>(&self, end: &EpochEnd, source: &mut S) {
         let Some(file) = self.state else {
             return;
         };
@@ -189,7 +189,7 @@ impl<R: Wait + Clock + Log, H: HubCalls<N>, N: Opened> Attendant<'_, '_, R, H, N
 
     /// Waits until somebody asks, or the ledgers are to be kept, or a writing is to be looked at, or the threads end.
     fn rest<S: Source>(&self, source: &mut S) {
-        let attendant = &self.shared.office.attendant;
+        let parker = &self.shared.admin.thread;
         let left = match self.state {
             Some(_) => self.dues.keeping.saturating_sub(self.now),
             None => u64::MAX,
@@ -200,9 +200,9 @@ impl<R: Wait + Clock + Log, H: HubCalls<N>, N: Opened> Attendant<'_, '_, R, H, N
             left
         };
         if wait == u64::MAX {
-            attendant.park(self.rt);
+            parker.park(self.rt);
         } else {
-            attendant.park_timeout(self.rt, Duration::from_millis(wait));
+            parker.park_timeout(self.rt, Duration::from_millis(wait));
         }
     }
 

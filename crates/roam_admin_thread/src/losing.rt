@@ -5,10 +5,10 @@ ghost use Rattle.std.specs.Prelude.{IfOk};
 ghost use Rattle.roam_conf.specs.Shown.{shown};
 ghost use Rattle.roam_migrate.specs.Carrying.{AreChanged};
 
-use crate::attending::Attendant;
+use crate::attending::AdminThread;
 use crate::next::out_of_memory;
 use log::Log;
-use roam_admin::{Course, Reply, plain_reply};
+use roam_admin::{AdminReply, ReplyStatus, plain_reply};
 use roam_conf::{Config, Realm};
 use roam_history::{Opened, Seat};
 use roam_log::{DropCause, DroppedText};
@@ -134,8 +134,8 @@ fn why_not(alloc: Global, config: &Config, next: Option<&Config>, losses: &[Loss
 
 /// Returns what is answered to who asked for a configuration by which so much would be lost of the realms of the one
 /// that is served, by their indexes, and to which nobody agreed.
-pub fn declined_for(alloc: Global, config: &Config, losses: &[Loss]) -> Reply {
-    plain_reply(Course::Declined, why_not(alloc, config, None, losses))
+pub fn declined_for(alloc: Global, config: &Config, losses: &[Loss]) -> AdminReply {
+    plain_reply(ReplyStatus::Declined, why_not(alloc, config, None, losses))
 }
 
 /// Tells what went of each realm of a configuration, by their indexes, where another one followed it.
@@ -161,7 +161,7 @@ pub fn objection<R: Wait, H: HubCalls<N>, N: Opened>(
     shared: &Shared<'_, '_, H, N>,
     seat: &Seat<Global, N>,
     next: &Config,
-) -> Option<Reply> {
+) -> Option<AdminReply> {
     let Ok(losses) = all_losses(rt, shared, seat, next) else {
         return Some(out_of_memory(shared.alloc));
     };
@@ -169,10 +169,10 @@ pub fn objection<R: Wait, H: HubCalls<N>, N: Opened>(
         return None;
     }
     let why = why_not(shared.alloc, shared.config, Some(next), losses.as_slice());
-    Some(plain_reply(Course::Declined, why))
+    Some(plain_reply(ReplyStatus::Declined, why))
 }
 
-impl<R: Wait + Log, H: HubCalls<N>, N: Opened> Attendant<'_, '_, R, H, N> {
+impl<R: Wait + Log, H: HubCalls<N>, N: Opened> AdminThread<'_, '_, R, H, N> {
     /// Returns how a realm stands that is here, by its index.
     fn standing_of(&self, index: u16) -> Option<Gauges> {
         let shared = self.shared;

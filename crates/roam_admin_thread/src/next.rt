@@ -7,12 +7,13 @@ ghost use Rattle.roam_history.specs.Books.{count_of};
 
 use crate::configured::Configured;
 use crate::fresh::FreshMeans;
-use crate::kits::Kits;
+use crate::host::Host;
 use crate::manner::Manner;
 use crate::source::{Following, Source};
+use crate::thread_parts::Kits;
 use crate::trial::can_start;
 use log::Log;
-use roam_admin::{Course, Reply, plain_reply};
+use roam_admin::{AdminReply, ReplyStatus, plain_reply};
 use roam_conf::Config;
 use roam_history::{Blanks, Opened};
 use roam_logger::{Notice, tell_or_drop};
@@ -24,8 +25,6 @@ use roam_workers::{HubCalls, Rests, Shared};
 use std::alloc::Global;
 use std::io::Write;
 use std::net::Net;
-use std::sync::Wait;
-use std::thread::Threads;
 
 /// The configuration that follows, and all that the server needs for it.
 #[derive(Drop)]
@@ -65,7 +64,7 @@ fn spare_for(threads: usize, sockets: usize) -> usize {
 /// # Errors
 ///
 /// `Memory` and `Thread`.
-fn room_for_threads<R: Threads + Wait + Sync>(
+fn room_for_threads<R: Host>(
     rt: &R,
     alloc: Global,
     configured: &Configured,
@@ -93,24 +92,24 @@ pub fn widen_all<R: Log>(rt: &R, config: &Config, sockets: &[BoundSocket]) {
 }
 
 /// Makes an answer that says why nothing changes.
-fn declined(body: Vec<u8>) -> Reply {
-    plain_reply(Course::Declined, body)
+fn declined(body: Vec<u8>) -> AdminReply {
+    plain_reply(ReplyStatus::Declined, body)
 }
 
 /// Makes an answer that says so, where there is memory for it.
-fn declined_with(alloc: Global, words: &[u8]) -> Reply {
+fn declined_with(alloc: Global, words: &[u8]) -> AdminReply {
     let mut body = Vec::new(alloc);
     let _is_said = body.extend_from_slice(words).is_ok();
     declined(body)
 }
 
 /// Returns what is answered where memory is wanting.
-pub fn out_of_memory(alloc: Global) -> Reply {
+pub fn out_of_memory(alloc: Global) -> AdminReply {
     declined_with(alloc, b"roam: out of memory\n")
 }
 
 /// Returns what is said to who asks for another configuration where the server is asked to stop.
-fn is_stopping(alloc: Global) -> Reply {
+fn is_stopping(alloc: Global) -> AdminReply {
     declined_with(alloc, b"roam: asked to stop\n")
 }
 
@@ -153,7 +152,7 @@ fn words_of<S: Source>(source: &mut S, sockets: &[BoundSocket], fault: ServeFaul
 }
 
 /// Makes all that the server needs for a configuration that follows the one that is served.
-fn make_next<R: Threads + Wait + Net + Log + Sync, H: HubCalls<N>, N: Opened>(
+fn make_next<R: Host, H: HubCalls<N>, N: Opened>(
     rt: &R,
     shared: &Shared<'_, '_, H, N>,
     sockets: &[BoundSocket],
@@ -194,7 +193,7 @@ fn make_next<R: Threads + Wait + Net + Log + Sync, H: HubCalls<N>, N: Opened>(
 pub fn following_of<H, N: Opened, S: Source>(
     shared: &Shared<'_, '_, H, N>,
     source: &mut S,
-) -> Result<Following, Reply>
+) -> Result<Following, AdminReply>
     ensures { IfOk result (λ following. MayFollow N.opening.config (shown following.config)) }
 {
     if shared.stopping.is_asked() {
@@ -212,13 +211,13 @@ pub fn following_of<H, N: Opened, S: Source>(
 /// # Errors
 ///
 /// What is answered where it can't be had.
-pub fn prepare_next<R: Threads + Wait + Net + Log + Sync, H: HubCalls<N>, N: Opened, S: Source>(
+pub fn prepare_next<R: Host, H: HubCalls<N>, N: Opened, S: Source>(
     rt: &R,
     shared: &Shared<'_, '_, H, N>,
     sockets: &[BoundSocket],
     source: &mut S,
     following: Following,
-) -> Result<Next, Reply>
+) -> Result<Next, AdminReply>
     ensures { IfOk result (λ next. next.configured.config ≡ following.config) }
 {
     match make_next(rt, shared, sockets, following) {

@@ -9,8 +9,8 @@ use Rattle.roam_history.specs.HubOpening.{HubOpening}
 use Rattle.roam_hub.specs.Histories.{AreHistories}
 use Rattle.roam_hub.specs.Pausing.{ArePaused, StandAtEnd}
 use Rattle.roam_sockets.specs.Faults.{IsAfterBinding}
-use Rattle.roam_admin_thread.specs.declared.hub_end.HubEnd.{HubEnd}
-use Rattle.roam_admin_thread.specs.declared.hub_end.HubEnd.TheVariants as ends
+use Rattle.roam_admin_thread.specs.declared.epoch_end.EpochEnd.{EpochEnd}
+use Rattle.roam_admin_thread.specs.declared.epoch_end.EpochEnd.TheVariants as ends
 use Rattle.roam_epoch.specs.declared.parts.Unserved.{Unserved}
 use Rattle.roam_epoch.specs.declared.parts.Unserved.TheVariants as unserved
 use Rattle.std.specs.declared.alloc.Global.{Global}
@@ -30,7 +30,7 @@ module _ {A : Type 0} where
 
 -- what follows the time under a configuration: another configuration may, where one does. What couldn't be started was
 -- so when all sockets were bound
-abbrev pub MayGoOn : ConfigView → HubEnd → Type 0
+abbrev pub MayGoOn : ConfigView → EpochEnd → Type 0
 MayGoOn config ends.Over = Unit {0}
 MayGoOn config (ends.Follows next) = MayFollow config (shown next.configured.config)
 MayGoOn config (ends.Failed fault handover) = IsAfterBinding fault

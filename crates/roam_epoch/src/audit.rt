@@ -10,7 +10,7 @@ ghost use Rattle.roam_workers.specs.Endings.{job_counts_of};
 use crate::given_back::given_back;
 use crate::parts::Left;
 use crate::room::RunResult;
-use roam_admin_thread::HubEnd;
+use roam_admin_thread::EpochEnd;
 use roam_hub::{Audited, Hub, Opened, PauseRoom, Paused, PausedHub, Seat};
 use roam_sockets::ServeFault;
 use roam_workers::{Ended, LockedQueue};
@@ -70,7 +70,7 @@ pub fn close_and_audit<R: Wait, N: Opened>(
 fn close_ended<R: Wait, N: Opened>(
     rt: &R,
     hub: PausableHub<'_, N>,
-    end: HubEnd,
+    end: EpochEnd,
     ended: Ended<N>,
 ) -> Result<Left<N>, ServeFault>
     requires { MayGoOn N.opening.config end }

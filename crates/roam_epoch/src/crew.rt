@@ -7,7 +7,7 @@ use crate::parts::Means;
 use crate::ready_threads::{ReadyThreads, prepare_threads};
 use crate::room::{RunResult, ThreadRoom};
 use mio::Waker;
-use roam_admin_thread::{Handover, HubEnd, ThreadKits};
+use roam_admin_thread::{EpochEnd, Handover, ThreadKits};
 use roam_hub::{Opened, Seat};
 use roam_port::Outbox;
 use roam_sockets::BoundSocket;
@@ -88,7 +88,7 @@ impl<N: Opened> Crew<N> {
             Err(fault) => {
                 let ThreadRoom { handles, results } = room;
                 drop(handles);
-                let end = HubEnd::Failed(fault, handover);
+                let end = EpochEnd::Failed(fault, handover);
                 Err(RunResult { end, results })
             }
         }

@@ -4,14 +4,14 @@ ghost use Rattle.std.specs.Prelude.{◌≡◌, ◌⊎◌, ◌↔◌, [], ◌∷�
 ghost use Rattle.roam_counters.specs.Datagrams.{all_of, both};
 ghost use Rattle.roam_workers.specs.JobCounts.{AreAllTaken};
 ghost use Rattle.roam_workers.specs.Endings.{datagrams_of, endings_of, job_counts_of};
-ghost use Rattle.roam_workers.specs.declared.ending.Ending.TheVariants as ending;
+ghost use Rattle.roam_workers.specs.declared.worker_result.ExitReason.TheVariants as ending;
 ghost use Rattle.roam_sockets.specs.Faults.{IsAfterBinding};
 
 use crate::room::Results;
 use roam_counters::Datagrams;
 use roam_hub::Opened;
 use roam_sockets::ServeFault;
-use roam_workers::{Ended, LockedQueue, Rests, WorkerEnd, audit_jobs, has_given_up_after};
+use roam_workers::{Ended, LockedQueue, Rests, WorkerResult, audit_jobs, has_given_up_after};
 
 /// Returns the first of two, or the other one where it is missing.
 fn first_of(one: Option<Rests>, other: Option<Rests>) -> Option<Rests> {
@@ -25,14 +25,14 @@ fn first_of(one: Option<Rests>, other: Option<Rests>) -> Option<Rests> {
 }
 
 /// Adds what one worker more gave back, in lists in which there is room for it.
-fn add<N: Opened>(ended: &mut Ended<N>, end: WorkerEnd<N>) -> Result<(), ServeFault>
+fn add<N: Opened>(ended: &mut Ended<N>, end: WorkerResult<N>) -> Result<(), ServeFault>
     ensures gave_up { IsTrue ended.new.has_given_up
         ↔ (IsTrue ended.old.has_given_up ⊎ (end.ending ≡ ending.GaveUp)) }
     ensures datagrams { ended.new.datagrams.counts ≡ both ended.old.datagrams.counts end.datagrams.counts }
     ensures jobs { OnOk result (ended.new.jobs.items ≡ ended.old.jobs.items ++ end.jobs ∷ []) }
     ensures err { IfErr result IsAfterBinding }
 {
-    let WorkerEnd {
+    let WorkerResult {
         ending,
         datagrams,
         jobs,

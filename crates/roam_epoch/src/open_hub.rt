@@ -14,27 +14,16 @@ use crate::opening::OpenHub;
 use crate::parts::{Left, Means, Served, ServerParts, Unserved};
 use crate::room::RunResult;
 use crate::running::{Run, run_threads};
-use log::Log;
 use mio::Waker;
-use roam_admin_thread::{Attendant, Configured, Source};
+use roam_admin_thread::{AdminThread, Configured, Host, Source};
 use roam_hub::{Blanks, Opened};
 use roam_shard::Paused;
 use roam_sockets::ServeFault;
 use roam_workers::{LockedQueue, Shared};
 use std::alloc::Global;
-use std::net::Net;
-use std::random::RandomSource;
-use std::sync::Wait;
-use std::thread::Threads;
-use std::time::Clock;
 
 /// Runs the threads of one configuration, from their start to their end. Returns how that came.
-fn run<
-    'c,
-    R: Threads + Wait + Clock + Net + RandomSource + Log + Sync,
-    N: Opened + Send + Sync,
-    S: Source,
->(
+fn run<'c, R: Host, N: Opened + Send + Sync, S: Source>(
     parts: &mut ServerParts<'_, R, S>,
     configured: &'c Configured,
     hub: &PausableHub<'c, N>,
@@ -58,9 +47,9 @@ fn run<
         counters: configured.counters.as_ref(),
         told_exchanges: configured.manner.told_exchanges,
         stations: configured.manner.stations,
-        office: parts.office,
+        admin: parts.admin,
         stopping: parts.stopping,
-        old_history: parts.old_history,
+        reclaimer: parts.reclaimer,
         stop: &signals.stop,
         start: parts.start,
         end: parts.end,
@@ -74,7 +63,7 @@ fn run<
                 handover,
             } = prepared;
             run_threads(Run {
-                attendant: Attendant::new(parts.rt, &shared, configured, seat),
+                admin_thread: AdminThread::new(parts.rt, &shared, configured, seat),
                 threads,
                 room,
                 handover,
@@ -90,12 +79,7 @@ fn run<
 /// # Errors
 ///
 /// `Receive`, where a socket was given up, and `Audit`.
-fn run_hub<
-    'c,
-    N: Opened + Send + Sync,
-    R: Threads + Wait + Clock + Net + RandomSource + Log + Sync,
-    S: Source,
->(
+fn run_hub<'c, N: Opened + Send + Sync, R: Host, S: Source>(
     parts: &mut ServerParts<'_, R, S>,
     configured: &'c Configured,
     open: OpenHub<'c, N>,
@@ -123,11 +107,7 @@ fn run_hub<
 /// # Errors
 ///
 /// Where the hub couldn't be opened for want of memory, its shards come back as they were.
-pub fn serve_over<
-    N: Opened + Send + Sync,
-    R: Threads + Wait + Clock + Net + RandomSource + Log + Sync,
-    S: Source,
->(
+pub fn serve_over<N: Opened + Send + Sync, R: Host, S: Source>(
     parts: &mut ServerParts<'_, R, S>,
     configured: &Configured,
     shards: Vec<Paused<Global>>,

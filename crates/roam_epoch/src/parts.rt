@@ -5,11 +5,11 @@ ghost use Rattle.roam_history.specs.Shown.{recorded};
 ghost use Rattle.roam_epoch.specs.Closed.{EndSomewhere, EndsOf};
 
 use crate::audit::AuditedHub;
-use roam_admin::{Office, Stopping};
-use roam_admin_thread::{Handover, HubEnd, Kits, Watch};
+use roam_admin::{Admin, Stopping};
+use roam_admin_thread::{EpochEnd, Handover, Kits, Watch};
 use roam_counters::Datagrams;
 use roam_hub::Opened;
-use roam_outgoing::{OldHistory, SharedLosses};
+use roam_outgoing::{Reclaimer, SharedLosses};
 use roam_port::Outbox;
 use roam_shard::Paused;
 use roam_sockets::ServeFault;
@@ -24,8 +24,8 @@ pub struct ServerParts<'s, R, S> {
     pub alloc: Global,
     pub losses: &'s SharedLosses,
     pub watch: Option<Watch<'s>>,
-    pub old_history: &'s OldHistory,
-    pub office: &'s Office,
+    pub reclaimer: &'s Reclaimer,
+    pub admin: &'s Admin,
     pub stopping: &'s Stopping,
     pub start: Instant,
     /// The milliseconds for which it serves; none where that has no end.
@@ -72,7 +72,7 @@ impl Means {
 
 /// The rest of a hub that was closed and audited.
 pub struct Left<N: Opened> {
-    pub end: HubEnd,
+    pub end: EpochEnd,
     /// The fates of the datagrams that its threads received.
     pub datagrams: Datagrams,
     /// The packets that still wait for room at a socket.
@@ -94,7 +94,7 @@ pub enum Unserved {
 /// The rest of it for the next one.
 #[derive(Drop)]
 pub struct Served {
-    pub end: HubEnd,
+    pub end: EpochEnd,
     /// The packets that still wait for room at a socket.
     pub outboxes: Vec<Outbox<Global>>,
     /// The home servers that do not answer, as it was told; none where that isn't known.

@@ -5,7 +5,7 @@ ghost use Rattle.roam_sockets.specs.Faults.{IsAfterBinding};
 
 use crate::thread_parts::{Part, Parts, parts_of};
 use mio::{Events, Poll};
-use roam_admin_thread::{Kit, ThreadKits};
+use roam_admin_thread::{ThreadKits, ThreadParts};
 use roam_counters::Datagrams;
 use roam_history::{Opened, Seat};
 use roam_log::Exchange;
@@ -120,7 +120,7 @@ impl<'s, 'c, H, N: Opened> Builder<'s, 'c, H, N> {
         let counting = counting_of(shared, number)?;
         let counts = counting.counts;
         let Part { seat, outbox, kit } = part;
-        let Kit {
+        let ThreadParts {
             polls,
             notices,
             queue,

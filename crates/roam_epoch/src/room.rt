@@ -2,10 +2,10 @@
 
 ghost use Rattle.std.specs.Prelude.{◌≡◌, []};
 
-use roam_admin_thread::HubEnd;
+use roam_admin_thread::EpochEnd;
 use roam_hub::{Opened, Seat};
 use roam_port::Outbox;
-use roam_workers::{JobCounts, WorkerEnd};
+use roam_workers::{JobCounts, WorkerResult};
 use std::alloc::{AllocError, Global};
 use std::sync::Wait;
 use std::thread::{JoinHandle, Threads};
@@ -13,7 +13,7 @@ use std::thread::{JoinHandle, Threads};
 /// Lists with room for what the workers and the timer give back, and for the seats of all threads.
 #[derive(Drop)]
 pub struct Results<N: Opened> {
-    pub ends: Vec<WorkerEnd<N>>,
+    pub ends: Vec<WorkerResult<N>>,
     pub seats: Vec<Seat<Global, N>>,
     pub outboxes: Vec<Outbox<Global>>,
     /// For what each counted of jobs between workers: nothing is in it.
@@ -34,7 +34,11 @@ impl<N: Opened> Results<N> {
     }
 
     /// Waits for the end of each thread, and keeps what it gives back.
-    pub fn join_all<R: Threads + Wait>(&mut self, rt: &R, handles: Vec<JoinHandle<WorkerEnd<N>>>) {
+    pub fn join_all<R: Threads + Wait>(
+        &mut self,
+        rt: &R,
+        handles: Vec<JoinHandle<WorkerResult<N>>>,
+    ) {
         for handle in handles {
             let _is_kept = self.ends.push(handle.join(rt)).is_ok();
         }
@@ -49,7 +53,7 @@ impl<N: Opened> Results<N> {
 /// Room for the handles of the threads, and for what they give back.
 #[derive(Drop)]
 pub struct ThreadRoom<N: Opened> {
-    pub handles: Vec<JoinHandle<WorkerEnd<N>>>,
+    pub handles: Vec<JoinHandle<WorkerResult<N>>>,
     pub results: Results<N>,
 }
 
@@ -65,6 +69,6 @@ impl<N: Opened> ThreadRoom<N> {
 
 /// The end of the time of the threads of one configuration, and what they gave back, with the seat of this thread.
 pub struct RunResult<N: Opened> {
-    pub end: HubEnd,
+    pub end: EpochEnd,
     pub results: Results<N>,
 }

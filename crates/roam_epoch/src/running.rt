@@ -5,22 +5,17 @@ ghost use Rattle.roam_epoch.specs.Closed.{MayGoOn};
 use crate::ready_threads::ReadyThreads;
 use crate::room::{RunResult, ThreadRoom};
 use crate::start::{attend, start_all};
-use log::Log;
-use roam_admin_thread::{Attendant, Handover, Source};
+use roam_admin_thread::{AdminThread, Handover, Host, Source};
 use roam_hub::Opened;
 use roam_workers::HubCalls;
-use std::net::Net;
-use std::random::RandomSource;
-use std::sync::Wait;
 use std::thread;
-use std::thread::{Scope, Threads};
-use std::time::Clock;
+use std::thread::Scope;
 
 /// The run of the threads of one configuration until they have ended: the threads, before they start, what this one has
 /// meanwhile, and room for what comes back.
 #[derive(Drop)]
 pub struct Run<'s, 'c, 'a, R, H, N: Opened, S> {
-    pub attendant: Attendant<'s, 'c, R, H, N>,
+    pub admin_thread: AdminThread<'s, 'c, R, H, N>,
     pub threads: ReadyThreads<'s, 'c, H, N>,
     pub room: ThreadRoom<N>,
     pub handover: Handover,
@@ -33,7 +28,7 @@ fn run_within<
     'w: 's,
     'c: 's,
     E,
-    R: Threads + Wait + Clock + Net + RandomSource + Log + Sync,
+    R: Host,
     H: HubCalls<N> + Sync,
     N: Opened + Send + Sync,
     S: Source,
@@ -41,7 +36,7 @@ fn run_within<
     ensures { MayGoOn N.opening.config result.end }
 {
     let Run {
-        mut attendant,
+        mut admin_thread,
         threads,
         room: ThreadRoom {
             mut handles,
@@ -50,15 +45,15 @@ fn run_within<
         handover,
         source,
     } = run;
-    let rt = attendant.rt;
-    let shared = attendant.shared;
+    let rt = admin_thread.rt;
+    let shared = admin_thread.shared;
     let have_started = start_all(scope, rt, shared, threads, &mut handles);
-    let end = attend(have_started, &mut attendant, handover, source);
+    let end = attend(have_started, &mut admin_thread, handover, source);
     shared.end_all();
     results.join_all(rt, handles);
-    attendant.keep_at_end(&end, source);
+    admin_thread.keep_at_end(&end, source);
     shared.logger.unpark();
-    results.keep_seat(attendant.seat);
+    results.keep_seat(admin_thread.seat);
     RunResult { end, results }
 }
 
@@ -66,17 +61,12 @@ fn run_within<
 /// that this one is served, also to who asked for it. Until the end this thread answers who asks for something. Where
 /// one can't be started, the others are ended. Where the server ends, the ledgers of sessions are kept as they stand
 /// then.
-pub fn run_threads<
-    's,
-    'c,
-    R: Threads + Wait + Clock + Net + RandomSource + Log + Sync,
-    H: HubCalls<N> + Sync,
-    N: Opened + Send + Sync,
-    S: Source,
->(run: Run<'s, 'c, '_, R, H, N, S>) -> RunResult<N>
+pub fn run_threads<'s, 'c, R: Host, H: HubCalls<N> + Sync, N: Opened + Send + Sync, S: Source>(
+    run: Run<'s, 'c, '_, R, H, N, S>,
+) -> RunResult<N>
     ensures { MayGoOn N.opening.config result.end }
 {
-    let rt = run.attendant.rt;
+    let rt = run.admin_thread.rt;
     thread::scope(
         thread::scope_env(),
         rt,

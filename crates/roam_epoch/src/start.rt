@@ -4,17 +4,16 @@ ghost use Rattle.roam_epoch.specs.Closed.{MayGoOn};
 
 use crate::ready_threads::ReadyThreads;
 use log::Log;
-use roam_admin::{Course, Reply};
-use roam_admin_thread::{Attendant, Handover, HubEnd, Source};
+use roam_admin::{AdminReply, ReplyStatus};
+use roam_admin_thread::{AdminThread, EpochEnd, Handover, Host, Source};
 use roam_hub::Opened;
 use roam_log::ReloadEnd;
 use roam_logger::{log_notices, serving, tell_or_drop, tell_reload};
 use roam_sockets::{ServeFault, now};
-use roam_workers::{HubCalls, Shared, Worker, WorkerEnd, receive_on, tick_on};
+use roam_workers::{HubCalls, Shared, Worker, WorkerResult, receive_on, tick_on};
 use std::alloc::Global;
-use std::net::Net;
 use std::sync::Wait;
-use std::thread::{JoinHandle, Scope, SpawnError, Threads};
+use std::thread::{JoinHandle, Scope, SpawnError};
 use std::time::Clock;
 
 /// Returns whether a thread has started that nobody joins by its handle. What wasn't started ends here, by one call.
@@ -24,8 +23,8 @@ fn has_started<T: Drop, F: Drop>(started: Result<JoinHandle<T>, SpawnError<F>>) 
 
 /// Keeps the handle of a thread, where it has started. Answers whether it has.
 fn is_kept<F: Drop, N: Opened>(
-    handles: &mut Vec<JoinHandle<WorkerEnd<N>>>,
-    started: Result<JoinHandle<WorkerEnd<N>>, SpawnError<F>>,
+    handles: &mut Vec<JoinHandle<WorkerResult<N>>>,
+    started: Result<JoinHandle<WorkerResult<N>>, SpawnError<F>>,
 ) -> bool {
     match started {
         Ok(handle) => handles.push(handle).is_ok(),
@@ -47,7 +46,7 @@ fn start_workers<
     rt: &'s R,
     alloc: Global,
     workers: Vec<Worker<'w, 'c, H, N>>,
-    handles: &mut Vec<JoinHandle<WorkerEnd<N>>>,
+    handles: &mut Vec<JoinHandle<WorkerResult<N>>>,
 ) -> bool {
     let mut have_started = true;
     for worker in workers {
@@ -71,7 +70,7 @@ pub fn start_all<
     rt: &'s R,
     shared: &'s Shared<'w, 'c, H, N>,
     prepared: ReadyThreads<'w, 'c, H, N>,
-    handles: &mut Vec<JoinHandle<WorkerEnd<N>>>,
+    handles: &mut Vec<JoinHandle<WorkerResult<N>>>,
 ) -> bool {
     let ReadyThreads {
         workers,
@@ -90,9 +89,9 @@ pub fn start_all<
 }
 
 /// Returns how a reload went, by what is answered.
-fn reload_end(course: Course) -> ReloadEnd {
-    match course {
-        Course::Done => ReloadEnd::Done,
+fn reload_end(status: ReplyStatus) -> ReloadEnd {
+    match status {
+        ReplyStatus::Done => ReloadEnd::Done,
         _ => ReloadEnd::Declined,
     }
 }
@@ -101,14 +100,14 @@ fn reload_end(course: Course) -> ReloadEnd {
 fn tell_reply<R: Wait + Clock + Log, H, N: Opened>(
     rt: &R,
     shared: &Shared<'_, '_, H, N>,
-    reply: Reply,
+    reply: AdminReply,
     is_awaited: bool,
 ) {
-    let office = shared.office;
-    tell_reload(rt, reload_end(reply.course), reply.body.as_slice());
-    office.count_reload(reply.course, now(rt, office.start, 0));
+    let admin = shared.admin;
+    tell_reload(rt, reload_end(reply.status), reply.body.as_slice());
+    admin.count_reload(reply.status, now(rt, admin.start, 0));
     if is_awaited {
-        office.control.answer(rt, reply);
+        admin.control.answer(rt, reply);
     } else {
         drop(reply);
     }
@@ -132,20 +131,20 @@ fn tell_start<R: Wait + Clock + Log, H, N: Opened>(
 
 /// Tells that the configuration is served, where all threads have started, and answers who asks for something until
 /// they end or another one is to follow.
-pub fn attend<R: Threads + Wait + Clock + Net + Log + Sync, H: HubCalls<N>, N: Opened, S: Source>(
+pub fn attend<R: Host, H: HubCalls<N>, N: Opened, S: Source>(
     have_started: bool,
-    attendant: &mut Attendant<'_, '_, R, H, N>,
+    admin_thread: &mut AdminThread<'_, '_, R, H, N>,
     handover: Handover,
     source: &mut S,
-) -> HubEnd
+) -> EpochEnd
     ensures { MayGoOn N.opening.config result }
 {
     if !have_started {
-        return HubEnd::Failed(ServeFault::Thread, handover);
+        return EpochEnd::Failed(ServeFault::Thread, handover);
     }
-    tell_start(attendant.rt, attendant.shared, handover);
-    match attendant.attend(source) {
-        Some(next) => HubEnd::Follows(next),
-        None => HubEnd::Over,
+    tell_start(admin_thread.rt, admin_thread.shared, handover);
+    match admin_thread.run(source) {
+        Some(next) => EpochEnd::Follows(next),
+        None => EpochEnd::Over,
     }
 }

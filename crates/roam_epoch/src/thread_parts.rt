@@ -3,7 +3,7 @@
 ghost use Rattle.std.specs.Prelude.{IfErr};
 ghost use Rattle.roam_sockets.specs.Faults.{IsAfterBinding};
 
-use roam_admin_thread::{Kit, ThreadKits};
+use roam_admin_thread::{ThreadKits, ThreadParts};
 use roam_history::{Opened, Seat, split};
 use roam_port::Outbox;
 use roam_sockets::ServeFault;
@@ -15,7 +15,7 @@ use std::alloc::Global;
 pub struct Part<N: Opened> {
     pub seat: Seat<Global, N>,
     pub outbox: Outbox<Global>,
-    pub kit: Kit,
+    pub kit: ThreadParts,
 }
 
 /// The parts of all threads that take part in the hub, and the seat of the server's own thread.
@@ -43,7 +43,7 @@ fn outbox_or_new(
 fn part_of<N: Opened>(
     seat: Seat<Global, N>,
     outbox: Outbox<Global>,
-    kit: Kit,
+    kit: ThreadParts,
 ) -> Result<(Seat<Global, N>, Part<N>), ServeFault>
     ensures { IfErr result IsAfterBinding }
 {

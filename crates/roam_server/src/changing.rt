@@ -10,7 +10,7 @@ ghost use Rattle.roam_server.specs.Served.{GoOn};
 ghost use Rattle.roam_server.specs.Ways.{IsWay, way_of};
 
 use log::Log;
-use roam_admin::{Reply, done};
+use roam_admin::{AdminReply, done};
 use roam_admin_thread::{
     Configured, Handover, Kits, Next, declined_for, out_of_memory, tell_what_went,
 };
@@ -84,7 +84,7 @@ pub struct Changed {
 }
 
 /// Returns which way a change went that was declined, and what is answered to who asked for it.
-fn declined(alloc: Global, config: &Config, why: Declined<Global>) -> (Way, Reply)
+fn declined(alloc: Global, config: &Config, why: Declined<Global>) -> (Way, AdminReply)
     ensures { result.0 ≡ way_of why }
 {
     match why {
@@ -100,7 +100,7 @@ fn declined(alloc: Global, config: &Config, why: Declined<Global>) -> (Way, Repl
 
 /// Returns what is left of a change for when the threads run again: the answer, and the configuration that isn't
 /// served.
-fn handed_over(reply: Reply, other: Configured) -> Handover {
+fn handed_over(reply: AdminReply, other: Configured) -> Handover {
     Handover {
         reply: Some(reply),
         before: Some(other),

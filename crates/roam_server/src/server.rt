@@ -5,26 +5,23 @@ ghost use Rattle.roam_conf.specs.Shown.{shown};
 ghost use Rattle.roam_server.specs.Served.{HasServedAll};
 ghost use Rattle.roam_sockets.specs.Faults.{IsAfterBinding, IsFaultOf};
 
-use crate::behind::{Behind, start_behind};
+use crate::lasting::{Lasting, start_lasting};
 use crate::serving::serve_all;
 use log::Log;
-use roam_admin::{Build, Office, Stopping};
+use roam_admin::{Admin, Build, Stopping};
 use roam_admin_thread::{
-    Configured, Handover, Manner, Source, Watch, make_kits, make_outboxes, widen_all,
+    Configured, Handover, Host, Manner, Source, Watch, make_kits, make_outboxes, widen_all,
 };
 use roam_conf::{Config, ExchangeLines};
 use roam_epoch::{Means, ServerParts};
 use roam_logger::{Notice, tell_or_drop};
-use roam_outgoing::{CAUSES, Counters, OldHistory, SharedLosses};
+use roam_outgoing::{CAUSES, Counters, Reclaimer, SharedLosses};
 use roam_port::socket_numbers;
 use roam_sockets::{BoundSocket, ServeFault, bind_all, descriptors_wanted, listen_at, reason_of};
 use roam_workers::Rests;
 use std::alloc::Global;
 use std::net::{Net, TcpListener};
-use std::random::RandomSource;
-use std::sync::Wait;
 use std::thread;
-use std::thread::Threads;
 use std::time::{Clock, Instant};
 
 /// The options of a server.
@@ -76,7 +73,7 @@ fn tell_losses<R: Log>(rt: &R, config: &Config, losses: &SharedLosses) {
 }
 
 /// Serves a configuration, and each one that follows, until the server ends, and tells what wasn't told.
-fn serve_to_end<R: Threads + Wait + Clock + Net + RandomSource + Log + Sync, S: Source>(
+fn serve_to_end<R: Host, S: Source>(
     parts: &mut ServerParts<'_, R, S>,
     mut configured: Configured,
     means: Means,
@@ -87,14 +84,14 @@ fn serve_to_end<R: Threads + Wait + Clock + Net + RandomSource + Log + Sync, S: 
     let served = serve_all(parts, &mut configured, means);
     tell_losses(parts.rt, &configured.config, parts.losses);
     let steps = served?;
-    let ended = Notice::Ended(steps, parts.old_history.times());
+    let ended = Notice::Ended(steps, parts.reclaimer.times());
     tell_or_drop(parts.rt, &configured.config, ended);
     Ok(())
 }
 
 /// Serves a configuration, and each one that follows, where the threads have started that outlast each configuration;
 /// errs with `Thread` where they haven't.
-fn serve_started<R: Threads + Wait + Clock + Net + RandomSource + Log + Sync, S: Source>(
+fn serve_started<R: Host, S: Source>(
     have_started: bool,
     parts: &mut ServerParts<'_, R, S>,
     configured: Configured,
@@ -110,7 +107,7 @@ fn serve_started<R: Threads + Wait + Clock + Net + RandomSource + Log + Sync, S:
 }
 
 /// Serves a configuration, and each one that follows, with the threads that outlast them.
-fn serve_with<R: Threads + Wait + Clock + Net + RandomSource + Log + Sync, S: Source>(
+fn serve_with<R: Host, S: Source>(
     parts: &mut ServerParts<'_, R, S>,
     listener: Option<&TcpListener>,
     configured: Configured,
@@ -121,11 +118,11 @@ fn serve_with<R: Threads + Wait + Clock + Net + RandomSource + Log + Sync, S: So
 {
     let rt = parts.rt;
     let alloc = parts.alloc;
-    let office = parts.office;
-    let old_history = parts.old_history;
-    let behind = Behind {
-        office,
-        old_history,
+    let admin = parts.admin;
+    let reclaimer = parts.reclaimer;
+    let behind = Lasting {
+        admin,
+        reclaimer,
         listener,
         control: match parts.watch {
             Some(watch) => watch.control,
@@ -139,10 +136,10 @@ fn serve_with<R: Threads + Wait + Clock + Net + RandomSource + Log + Sync, S: So
             ensures ok { IfOk result (λ u. HasServedAll (shown configured.config)) }
             ensures err { IfErr result IsAfterBinding }
         {
-            let have_started = start_behind(scope, rt, alloc, behind);
+            let have_started = start_lasting(scope, rt, alloc, behind);
             let served = serve_started(have_started, parts, configured, means);
-            office.close();
-            old_history.wake();
+            admin.close();
+            reclaimer.wake();
             served
         },
     )
@@ -194,7 +191,7 @@ struct Serving<'s> {
 }
 
 /// Serves a configuration whose sockets are bound, and each one that follows.
-fn serve_bound<R: Threads + Wait + Clock + Net + RandomSource + Log + Sync, S: Source>(
+fn serve_bound<R: Host, S: Source>(
     rt: &R,
     alloc: Global,
     configured: Configured,
@@ -212,8 +209,8 @@ fn serve_bound<R: Threads + Wait + Clock + Net + RandomSource + Log + Sync, S: S
     let config = &configured.config;
     let listener = listener(rt, config, watch);
     let losses = SharedLosses::new();
-    let old_history = OldHistory::new(alloc, config.top.shards)?;
-    let office = Office::new(rt, alloc, start, config.top.shards, build_of(watch))?;
+    let reclaimer = Reclaimer::new(alloc, config.top.shards)?;
+    let admin = Admin::new(rt, alloc, start, config.top.shards, build_of(watch))?;
     let stopping = Stopping::new();
     let told = configured.manner.told_exchanges;
     let means = first_means(rt, alloc, config, configured.sockets.as_slice(), told)?;
@@ -222,8 +219,8 @@ fn serve_bound<R: Threads + Wait + Clock + Net + RandomSource + Log + Sync, S: S
         alloc,
         losses: &losses,
         watch,
-        old_history: &old_history,
-        office: &office,
+        reclaimer: &reclaimer,
+        admin: &admin,
         stopping: &stopping,
         start,
         milliseconds,
@@ -240,7 +237,7 @@ fn serve_bound<R: Threads + Wait + Clock + Net + RandomSource + Log + Sync, S: S
 ///
 /// The first of `Clock`, `Bind`, `Descriptors`, `Memory`, `Wait`, `Thread`, `Receive` and `Audit` that comes up.
 /// `Bind` names an endpoint of the configuration. `Ok` comes of an audit alone.
-pub fn serve<R: Threads + Wait + Clock + Net + RandomSource + Log + Sync, S: Source>(
+pub fn serve<R: Host, S: Source>(
     rt: &R,
     alloc: Global,
     config: Config,

@@ -13,8 +13,7 @@ use crate::again::{is_time_over, take_again, told_or};
 use crate::beginning::begin;
 use crate::changing::{Changed, Ready, Way, change};
 use crate::unserved::is_stopped;
-use log::Log;
-use roam_admin_thread::{Configured, FreshMeans, Handover, HubEnd, Source};
+use roam_admin_thread::{Configured, EpochEnd, FreshMeans, Handover, Host, Source};
 use roam_epoch::{Means, Served, ServerParts, Unserved, serve_over};
 use roam_hub::Blanks;
 use roam_logger::{Notice, tell_or_drop};
@@ -24,12 +23,8 @@ use roam_sockets::ServeFault;
 use roam_workers::Rests;
 use std::alloc::Global;
 use std::marker::Brand;
-use std::net::Net;
-use std::random::RandomSource;
-use std::sync::Wait;
 use std::thread;
-use std::thread::Threads;
-use std::time::{Clock, Duration};
+use std::time::Duration;
 
 /// The time, in milliseconds, before the threads and sockets are started again that couldn't be.
 const BEFORE_NEXT_TRY: u64 = 100;
@@ -47,7 +42,7 @@ fn not_started(
         → IsServedOn config shards.items result }
 {
     Served {
-        end: HubEnd::Failed(fault, handover),
+        end: EpochEnd::Failed(fault, handover),
         outboxes,
         rests,
         shards,
@@ -56,7 +51,7 @@ fn not_started(
 }
 
 /// Serves a configuration once, over shards that stand under it.
-fn serve_once<R: Threads + Wait + Clock + Net + RandomSource + Log + Sync, S: Source>(
+fn serve_once<R: Host, S: Source>(
     parts: &mut ServerParts<'_, R, S>,
     configured: &Configured,
     shards: Vec<Paused<Global>>,
@@ -80,7 +75,7 @@ fn serve_once<R: Threads + Wait + Clock + Net + RandomSource + Log + Sync, S: So
 }
 
 /// Serves a configuration once more, where what serves couldn't be started before.
-fn serve_again<R: Threads + Wait + Clock + Net + RandomSource + Log + Sync, S: Source>(
+fn serve_again<R: Host, S: Source>(
     parts: &mut ServerParts<'_, R, S>,
     configured: &Configured,
     shards: Vec<Paused<Global>>,
@@ -113,7 +108,7 @@ fn serve_again<R: Threads + Wait + Clock + Net + RandomSource + Log + Sync, S: S
 }
 
 /// Serves a configuration until what serves could be started: nothing of what stands is lost where it can't be at once.
-fn serve_until_started<R: Threads + Wait + Clock + Net + RandomSource + Log + Sync, S: Source>(
+fn serve_until_started<R: Host, S: Source>(
     parts: &mut ServerParts<'_, R, S>,
     configured: &Configured,
     first: Served,
@@ -141,7 +136,7 @@ fn serve_until_started<R: Threads + Wait + Clock + Net + RandomSource + Log + Sy
 
 /// Serves on where what serves couldn't be started before. Who asks is answered first, and it is over where the server
 /// is asked to stop.
-fn serve_on<R: Threads + Wait + Clock + Net + RandomSource + Log + Sync, S: Source>(
+fn serve_on<R: Host, S: Source>(
     parts: &mut ServerParts<'_, R, S>,
     configured: &Configured,
     served: Served,
@@ -159,10 +154,10 @@ fn serve_on<R: Threads + Wait + Clock + Net + RandomSource + Log + Sync, S: Sour
         steps,
     } = served;
     match end {
-        HubEnd::Failed(fault, mut handover) => {
+        EpochEnd::Failed(fault, mut handover) => {
             if is_stopped(parts, fault) {
                 return Ok(Served {
-                    end: HubEnd::Over,
+                    end: EpochEnd::Over,
                     outboxes,
                     rests,
                     shards,
@@ -185,7 +180,7 @@ fn serve_on<R: Threads + Wait + Clock + Net + RandomSource + Log + Sync, S: Sour
 
 /// Serves for the first time after a change: the configuration that follows; that of before, where the other was
 /// declined; where memory is wanting nothing yet.
-fn serve_changed<R: Threads + Wait + Clock + Net + RandomSource + Log + Sync, S: Source>(
+fn serve_changed<R: Host, S: Source>(
     parts: &mut ServerParts<'_, R, S>,
     configured: &Configured,
     shards: Vec<Paused<Global>>,
@@ -227,7 +222,7 @@ fn serve_changed<R: Threads + Wait + Clock + Net + RandomSource + Log + Sync, S:
 /// # Errors
 ///
 /// The first configuration's threads that can't be started end it; those of another one are tried again.
-pub(crate) fn serve_all<R: Threads + Wait + Clock + Net + RandomSource + Log + Sync, S: Source>(
+pub(crate) fn serve_all<R: Host, S: Source>(
     parts: &mut ServerParts<'_, R, S>,
     configured: &mut Configured,
     means: Means,
@@ -252,9 +247,9 @@ pub(crate) fn serve_all<R: Threads + Wait + Clock + Net + RandomSource + Log + S
         } = served;
         steps = steps.saturating_add(more);
         let next = match end {
-            HubEnd::Over => return Ok(steps),
-            HubEnd::Failed(fault, _) => return Err(fault),
-            HubEnd::Follows(next) => next,
+            EpochEnd::Over => return Ok(steps),
+            EpochEnd::Failed(fault, _) => return Err(fault),
+            EpochEnd::Follows(next) => next,
         };
         let changed = change(parts, configured, &mut shards, next, rests);
         let first = serve_changed(parts, configured, shards, changed, outboxes)?;

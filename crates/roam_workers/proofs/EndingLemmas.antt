@@ -2,10 +2,10 @@
 use Rattle.std.proofs.Common.{rules, arith, ◌≡◌, ◌⊎◌, ◌↔◌, ◌∙◌, inl, inr, Bool, false, IsTrue, List, [], ◌∷◌, ◌++◌, append-nil, length, subst, sym}
 use Rattle.std.specs.Prelude.{Contains}
 use Rattle.std.proofs.lemmas.List.Elements.{Contains-append_left, Contains-push, Contains-push_cases}
-use Rattle.roam_workers.specs.declared.ending.Ending.{Ending}
-use Rattle.roam_workers.specs.declared.ending.Ending.TheVariants as ending
+use Rattle.roam_workers.specs.declared.worker_result.ExitReason.{ExitReason}
+use Rattle.roam_workers.specs.declared.worker_result.ExitReason.TheVariants as ending
 
-pub given-up-after : (endings : List Ending) (last : Ending) (before now : Bool) →
+pub given-up-after : (endings : List ExitReason) (last : ExitReason) (before now : Bool) →
     (IsTrue before ↔ Contains endings ending.GaveUp) →
     (IsTrue now ↔ (IsTrue before ⊎ (last ≡ ending.GaveUp))) →
     IsTrue now ↔ Contains (endings ++ last ∷ []) ending.GaveUp

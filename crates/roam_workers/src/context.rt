@@ -10,10 +10,10 @@ ghost use Rattle.roam_outgoing.specs.Sending.{PutsEach, outbox_in};
 ghost use Rattle.roam_workers.specs.Handlings.{at_work};
 ghost use Rattle.roam_workers.specs.Ticks.{HasNotTicked, Ticks};
 
-use crate::ending::{Ending, WorkerEnd};
 use crate::hub_calls::HubCalls;
 use crate::junk::Junk;
 use crate::shared::Shared;
+use crate::worker_result::{ExitReason, WorkerResult};
 use roam_counters::Datagrams;
 use roam_history::{Answered, HubFault, Opened, Seat, Ticked};
 use roam_log::Origin;
@@ -189,7 +189,7 @@ impl<H: HubCalls<N>, N: Opened> WorkerContext<'_, '_, H, N> {
             self.refuse(refusal, origin);
         }
         self.outgoing.put_all(answered.answer.outs);
-        self.shared.old_history.free_beside(answered.number);
+        self.shared.reclaimer.free_beside(answered.number);
         if answered.octets > u64::from(self.shared.config.top.trace_octets) {
             self.let_go(rt, answered.shard);
         }
@@ -229,7 +229,7 @@ impl<H: HubCalls<N>, N: Opened> WorkerContext<'_, '_, H, N> {
     }
 
     /// Sends what can be sent, gives back the seat and the packets that wait on, and has all workers end.
-    pub fn leave(mut self, ending: Ending) -> WorkerEnd<N>
+    pub fn leave(mut self, ending: ExitReason) -> WorkerResult<N>
         ensures ending { result.ending ≡ ending }
         ensures datagrams { result.datagrams ≡ self.entry.datagrams }
         ensures seat { result.seat ≡ self.entry.seat }
@@ -253,7 +253,7 @@ impl<H: HubCalls<N>, N: Opened> WorkerContext<'_, '_, H, N> {
             free_again_at: _,
             junk,
         } = self;
-        let end = WorkerEnd {
+        let end = WorkerResult {
             ending,
             datagrams,
             jobs: Vec::new(shared.alloc),

@@ -38,7 +38,7 @@ impl<H: HubCalls<N>, N: Opened> WorkerContext<'_, '_, H, N> {
         match shared.hub.let_go(rt, &mut self.seat, shard) {
             Ok(steps) => {
                 self.counting.let_go(shard, steps.len());
-                shared.old_history.hand_over(rt, steps);
+                shared.reclaimer.hand_over(rt, steps);
                 true
             }
             Err(_) => false,
@@ -60,9 +60,9 @@ impl<H: HubCalls<N>, N: Opened> WorkerContext<'_, '_, H, N> {
             Ok(steps) => {
                 self.free_again_at = self.now.saturating_add(FREE_AGAIN);
                 self.counting.let_go(shard, steps.len());
-                self.shared.old_history.count();
+                self.shared.reclaimer.count();
                 drop(steps);
-                self.shared.old_history.free_all(rt);
+                self.shared.reclaimer.free_all(rt);
                 true
             }
             Err(_) => false,

@@ -6,11 +6,11 @@ ghost use Rattle.roam_conf.specs.Shown.{shown};
 use crate::locked_queue::LockedQueue;
 use crate::rest::TimerRest;
 use mio::Waker;
-use roam_admin::{Office, Stopping};
+use roam_admin::{Admin, Stopping};
 use roam_conf::{Config, ExchangeLines};
 use roam_history::Opened;
 use roam_log::StationForm;
-use roam_outgoing::{Counters, OldHistory, SharedLosses};
+use roam_outgoing::{Counters, Reclaimer, SharedLosses};
 use std::alloc::Global;
 use std::sync::atomic::{AtomicBool, Ordering};
 use std::thread::Parker;
@@ -37,10 +37,10 @@ pub struct Shared<'s, 'c, H, N: Opened> {
     pub told_exchanges: ExchangeLines,
     /// The form of a Calling-Station-Id in these lines.
     pub stations: StationForm,
-    /// The office where the server's own thread is asked for something.
-    pub office: &'s Office,
+    /// The queues in which the server's own thread is asked for something.
+    pub admin: &'s Admin,
     pub stopping: &'s Stopping,
-    pub old_history: &'s OldHistory,
+    pub reclaimer: &'s Reclaimer,
     /// True where all are to end.
     pub stop: &'s AtomicBool,
     pub start: Instant,
@@ -63,6 +63,6 @@ impl<H, N: Opened> Shared<'_, '_, H, N> {
         for waker in self.wakers {
             let _is_woken = waker.wake().is_ok();
         }
-        self.office.attendant.unpark();
+        self.admin.thread.unpark();
     }
 }

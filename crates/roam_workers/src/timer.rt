@@ -7,13 +7,13 @@ ghost use Rattle.roam_workers.specs.Handlings.{at_work};
 ghost use Rattle.roam_workers.specs.Work.{HasWorked, HasWorkedTo};
 
 use crate::context::WorkerContext;
-use crate::ending::{Ending, WorkerEnd};
 use crate::hub_calls::HubCalls;
 use crate::rest::wait_for;
 use crate::rests::Rests;
 use crate::silence::{does_any_wait, tell_rests};
 use crate::ticking::TICK;
 use crate::told_losses::tell_losses;
+use crate::worker_result::{ExitReason, WorkerResult};
 use mio::{Events, Poll};
 use roam_history::Opened;
 use std::alloc::Global;
@@ -137,26 +137,26 @@ fn tell_all<R: Wait, H: HubCalls<N>, N: Opened>(rt: &R, timer: &mut Timer<'_, '_
 fn round<R: Wait + Clock, H: HubCalls<N>, N: Opened>(
     rt: &R,
     timer: &mut Timer<'_, '_, H, N>,
-) -> Option<Ending>
+) -> Option<ExitReason>
     ensures { HasWorked N.opening (at_work timer.old.context.seat timer.old.context.counting timer.old.context.outgoing)
         (at_work timer.new.context.seat timer.new.context.counting timer.new.context.outgoing) }
 {
     if timer.context.shared.is_over() {
-        return Some(Ending::Stopped);
+        return Some(ExitReason::Stopped);
     }
     timer.context.look_at_clock(rt);
     tell_stop(timer);
     if is_time_over(timer.context.now, end_of(timer)) {
-        return Some(Ending::TimeOver);
+        return Some(ExitReason::TimeOver);
     }
     timer.context.outgoing.send_again();
     tick_all(rt, timer);
     if timer.context.shared.is_over() {
-        return Some(Ending::Stopped);
+        return Some(ExitReason::Stopped);
     }
     tell_all(rt, timer);
     if has_done_all(rt, timer) {
-        return Some(Ending::TimeOver);
+        return Some(ExitReason::TimeOver);
     }
     None
 }
@@ -205,7 +205,7 @@ fn rest<R: Wait + Clock, H: HubCalls<N>, N: Opened>(rt: &R, timer: &mut Timer<'_
 
 impl<H: HubCalls<N>, N: Opened> Timer<'_, '_, H, N> {
     /// Gives back what its context does, and which home servers keep silent, as it was told.
-    fn leave(self, ending: Ending) -> WorkerEnd<N>
+    fn leave(self, ending: ExitReason) -> WorkerResult<N>
         ensures seat { result.seat ≡ self.entry.context.seat }
         ensures sends { PutsEach [] (outbox_in self.entry.context.outgoing) result.outbox }
     {
@@ -230,7 +230,7 @@ impl<H: HubCalls<N>, N: Opened> Timer<'_, '_, H, N> {
 pub fn tick_on<R: Wait + Clock, H: HubCalls<N>, N: Opened>(
     rt: &R,
     mut timer: Timer<'_, '_, H, N>,
-) -> WorkerEnd<N>
+) -> WorkerResult<N>
     ensures { HasWorkedTo N.opening
         (at_work timer.entry.context.seat timer.entry.context.counting timer.entry.context.outgoing)
         result.seat result.outbox }

@@ -11,11 +11,11 @@ ghost use Rattle.roam_workers.specs.Work.{HasWorked, HasWorkedTo};
 
 use crate::buffer::give_back;
 use crate::context::WorkerContext;
-use crate::ending::{Ending, WorkerEnd};
 use crate::hearing::Hearing;
 use crate::hub_calls::HubCalls;
 use crate::ready::{keep_ready, mark_all_ready, mark_ready, wait_before};
 use crate::worker_jobs::WorkerJobs;
+use crate::worker_result::{ExitReason, WorkerResult};
 use mio::{Events, Poll};
 use roam_history::Opened;
 use roam_port::Heard;
@@ -106,7 +106,7 @@ fn take_portion<R: Wait + Clock, H: HubCalls<N>, N: Opened, T: Hearing>(
     jobs: &mut WorkerJobs<N>,
     receiver: &mut T,
     buffer: &mut Vec<u8>,
-) -> Option<Ending>
+) -> Option<ExitReason>
     ensures heard { HandlesEach N.opening T.hears
         (receiving context.old.seat context.old.counting context.old.outgoing context.old.datagrams
         jobs.old.for_others.items)
@@ -119,7 +119,7 @@ fn take_portion<R: Wait + Clock, H: HubCalls<N>, N: Opened, T: Hearing>(
     let alloc = context.shared.alloc;
     for _ in 0..IN_A_ROUND {
         if context.shared.is_over() {
-            return Some(Ending::Stopped);
+            return Some(ExitReason::Stopped);
         }
         match receiver.hear(alloc, buffer) {
             Heard::Datagram(datagram) => {
@@ -129,7 +129,7 @@ fn take_portion<R: Wait + Clock, H: HubCalls<N>, N: Opened, T: Hearing>(
                 give_back(buffer, datagram);
             }
             Heard::Nothing => return None,
-            Heard::GiveUp => return Some(Ending::GaveUp),
+            Heard::GiveUp => return Some(ExitReason::GaveUp),
         }
     }
     None
@@ -158,7 +158,7 @@ fn receive_portion<R: Wait + Clock, H: HubCalls<N>, N: Opened>(
     jobs: &mut WorkerJobs<N>,
     receiver: &mut Receiver<'_>,
     buffer: &mut Vec<u8>,
-) -> Option<Ending>
+) -> Option<ExitReason>
     ensures { HasWorked N.opening (at_work context.old.seat context.old.counting context.old.outgoing)
         (at_work context.new.seat context.new.counting context.new.outgoing) }
 {
@@ -178,7 +178,7 @@ fn receive_at<R: Wait + Clock, H: HubCalls<N>, N: Opened>(
     alloc: Global,
     worker: &mut Worker<'_, '_, H, N>,
     place: usize,
-) -> Option<Ending>
+) -> Option<ExitReason>
     ensures { HasWorked N.opening
         (at_work worker.old.context.seat worker.old.context.counting worker.old.context.outgoing)
         (at_work worker.new.context.seat worker.new.context.counting worker.new.context.outgoing) }
@@ -208,7 +208,7 @@ fn receive_all<R: Wait + Clock, H: HubCalls<N>, N: Opened>(
     rt: &R,
     alloc: Global,
     worker: &mut Worker<'_, '_, H, N>,
-) -> Option<Ending>
+) -> Option<ExitReason>
     ensures { HasWorked N.opening
         (at_work worker.old.context.seat worker.old.context.counting worker.old.context.outgoing)
         (at_work worker.new.context.seat worker.new.context.counting worker.new.context.outgoing) }
@@ -227,14 +227,14 @@ fn round<R: Wait + Clock, H: HubCalls<N>, N: Opened>(
     rt: &R,
     alloc: Global,
     worker: &mut Worker<'_, '_, H, N>,
-) -> Option<Ending>
+) -> Option<ExitReason>
     ensures { HasWorked N.opening
         (at_work worker.old.context.seat worker.old.context.counting worker.old.context.outgoing)
         (at_work worker.new.context.seat worker.new.context.counting worker.new.context.outgoing) }
 {
     wait(rt, worker);
     if worker.context.shared.is_over() {
-        return Some(Ending::Stopped);
+        return Some(ExitReason::Stopped);
     }
     worker.context.look_at_clock(rt);
     worker.context.take_queued(rt, &mut worker.jobs, true);
@@ -257,7 +257,7 @@ fn end_jobs<R: Wait, H: HubCalls<N>, N: Opened>(rt: &R, worker: &mut Worker<'_, 
 
 impl<H: HubCalls<N>, N: Opened> Worker<'_, '_, H, N> {
     /// Gives back what its context does.
-    fn leave(self, ending: Ending) -> WorkerEnd<N>
+    fn leave(self, ending: ExitReason) -> WorkerResult<N>
         requires { HoldsNone self.jobs.for_others.items (λ q. q.items) }
         ensures seat { result.seat ≡ self.entry.context.seat }
         ensures jobs { result.jobs ≡ self.entry.jobs.counts }
@@ -284,7 +284,7 @@ pub fn receive_on<R: Wait + Clock, H: HubCalls<N>, N: Opened>(
     rt: &R,
     alloc: Global,
     mut worker: Worker<'_, '_, H, N>,
-) -> WorkerEnd<N>
+) -> WorkerResult<N>
     ensures { HasWorkedTo N.opening
         (at_work worker.entry.context.seat worker.entry.context.counting worker.entry.context.outgoing)
         result.seat result.outbox }

@@ -3,7 +3,7 @@ use Rattle.std.specs.Vec.Iter.{into_iter_items}
 use Rattle.std.proofs.Common.{◌≡◌, [], ◌∷◌, ◌++◌, ◌↔◌, ◌∙◌, IsTrue, ap, append_assoc, arith, length, subst, sym}
 use Rattle.std.specs.Prelude.{Contains}
 use Rattle.std.proofs.lemmas.List.{map-append}
-use Rattle.roam_workers.specs.declared.ending.Ending.TheVariants as ending
+use Rattle.roam_workers.specs.declared.worker_result.ExitReason.TheVariants as ending
 use Rattle.std.proofs.lemmas.List.{nil_from_length}
 use Rattle.roam_counters.specs.Datagrams.{all_of, with_all}
 use Rattle.roam_workers.specs.Endings.{datagrams_of, endings_of, job_counts_of}

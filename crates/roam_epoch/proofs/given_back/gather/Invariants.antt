@@ -1,7 +1,7 @@
 use Rattle.std.specs.Vec.Iter.{into_iter_items, into_iter_len}
 use Rattle.std.proofs.Common.{◌≡◌, ◌↔◌, ◌++◌, IsTrue, length}
 use Rattle.std.specs.Prelude.{Contains}
-use Rattle.roam_workers.specs.declared.ending.Ending.TheVariants as ending
+use Rattle.roam_workers.specs.declared.worker_result.ExitReason.TheVariants as ending
 use Rattle.roam_counters.specs.Datagrams.{all_of, with_all}
 use Rattle.roam_workers.specs.Endings.{datagrams_of, endings_of, job_counts_of}
 use Rattle.roam_epoch.proofs.given_back.gather.Given as goal

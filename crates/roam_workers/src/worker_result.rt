@@ -11,7 +11,7 @@ use std::alloc::Global;
 
 /// The cause why a worker ended.
 #[derive(Clone, Copy, PartialEq, Eq)]
-pub enum Ending {
+pub enum ExitReason {
     /// Another one ended.
     Stopped,
     /// The server's time is over.
@@ -22,8 +22,8 @@ pub enum Ending {
 
 /// The parts that a worker gives back.
 #[derive(Drop)]
-pub struct WorkerEnd<N: Opened> {
-    pub ending: Ending,
+pub struct WorkerResult<N: Opened> {
+    pub ending: ExitReason,
     /// The fates of the datagrams that it received.
     pub datagrams: Datagrams,
     /// For each queue, how many jobs it handed on to it, and how many it took over from there; none of the timer.
@@ -52,8 +52,8 @@ pub struct Ended<N: Opened> {
 }
 
 /// Returns whether a worker gave up a socket, after one more has ended.
-pub fn has_given_up_after(has_given_up: bool, ending: Ending) -> bool
-    ensures { IsTrue result ↔ (IsTrue has_given_up ⊎ (ending ≡ Ending.GaveUp)) }
+pub fn has_given_up_after(has_given_up: bool, ending: ExitReason) -> bool
+    ensures { IsTrue result ↔ (IsTrue has_given_up ⊎ (ending ≡ ExitReason.GaveUp)) }
 {
-    has_given_up || ending == Ending::GaveUp
+    has_given_up || ending == ExitReason::GaveUp
 }

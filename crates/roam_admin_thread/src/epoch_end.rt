@@ -6,7 +6,7 @@ use roam_sockets::ServeFault;
 
 /// The end of the time under a configuration.
 #[derive(Drop)]
-pub enum HubEnd {
+pub enum EpochEnd {
     /// The server ends.
     Over,
     /// This configuration is to follow.
@@ -16,20 +16,20 @@ pub enum HubEnd {
     Failed(ServeFault, Handover),
 }
 
-impl HubEnd {
+impl EpochEnd {
     /// Returns whether the server ends.
     pub fn is_over(&self) -> bool {
         match self {
-            HubEnd::Over => true,
-            HubEnd::Failed(_, _) | HubEnd::Follows(_) => false,
+            EpochEnd::Over => true,
+            EpochEnd::Failed(_, _) | EpochEnd::Follows(_) => false,
         }
     }
 
     /// Returns whether what serves couldn't be started.
     pub fn has_failed(&self) -> bool {
         match self {
-            HubEnd::Failed(_, _) => true,
-            HubEnd::Over | HubEnd::Follows(_) => false,
+            EpochEnd::Failed(_, _) => true,
+            EpochEnd::Over | EpochEnd::Follows(_) => false,
         }
     }
 }

@@ -17,7 +17,7 @@ use std::net::Net;
 
 /// The parts of a worker or the timer.
 #[derive(Drop)]
-pub struct Kit {
+pub struct ThreadParts {
     pub polls: Polls,
     pub notices: Notices,
     /// The logger's end of its queue of notices.
@@ -33,8 +33,8 @@ pub struct Kit {
 
 /// The parts of the timer and the workers.
 pub struct ThreadKits {
-    pub timer: Kit,
-    pub workers: Vec<Kit>,
+    pub timer: ThreadParts,
+    pub workers: Vec<ThreadParts>,
 }
 
 // By hand, as that of `Kits`: so a proof sees one call wherever they end, and not each of their parts.
@@ -59,7 +59,7 @@ impl Drop for Kits {
 
 impl ThreadKits {
     /// Takes them apart: the timer's, and those of the workers.
-    pub fn into_parts(self) -> (Kit, Vec<Kit>)
+    pub fn into_parts(self) -> (ThreadParts, Vec<ThreadParts>)
         ensures timer { result.0 ≡ self.timer }
         ensures workers { result.1 ≡ self.workers }
     {
@@ -85,12 +85,12 @@ fn make_kit(
     polls: Polls,
     told: ExchangeLines,
     room: usize,
-) -> Result<Kit, ServeFault>
+) -> Result<ThreadParts, ServeFault>
     ensures { IfErr result IsAfterBinding }
 {
     let (notices, queue) = queue_of_notices(alloc)?;
     let (exchanges, lines) = queue_of_lines(alloc, told)?;
-    Ok(Kit {
+    Ok(ThreadParts {
         polls,
         notices,
         queue,
@@ -141,7 +141,7 @@ fn make_worker_kit(
     sockets: &[BoundSocket],
     worker: usize,
     told: ExchangeLines,
-) -> Result<Kit, ServeFault>
+) -> Result<ThreadParts, ServeFault>
     ensures { IfErr result IsAfterBinding }
 {
     register(&polls.arrivals, sockets, worker)?;
@@ -154,7 +154,7 @@ fn make_worker_kits(
     polls: Vec<Polls>,
     sockets: &[BoundSocket],
     told: ExchangeLines,
-) -> Result<Vec<Kit>, ServeFault>
+) -> Result<Vec<ThreadParts>, ServeFault>
     ensures { IfErr result IsAfterBinding }
 {
     let mut kits = Vec::with_capacity(alloc, polls.len())?;

@@ -1,21 +1,18 @@
 //! The threads that outlast each configuration: the one that frees stored steps, and those that answer over HTTP.
 
-use log::Log;
-use roam_admin::{Asker, Door, Office, answer_on};
-use roam_outgoing::OldHistory;
+use roam_admin::{Admin, AdminService, AdminSocket, answer_on};
+use roam_admin_thread::Host;
+use roam_outgoing::Reclaimer;
 use roam_sockets::ControlSocket;
 use std::alloc::Global;
 use std::net::TcpListener;
-use std::random::RandomSource;
-use std::sync::Wait;
-use std::thread::{Scope, Threads};
-use std::time::Clock;
+use std::thread::Scope;
 
 /// The parts that are shared by the threads that outlast each configuration.
 #[derive(Clone, Copy)]
-pub struct Behind<'s> {
-    pub office: &'s Office,
-    pub old_history: &'s OldHistory,
+pub struct Lasting<'s> {
+    pub admin: &'s Admin,
+    pub reclaimer: &'s Reclaimer,
     /// The socket at which the counts are asked for, if any.
     pub listener: Option<&'s TcpListener>,
     /// Through which the server is asked for more, if through any.
@@ -23,34 +20,34 @@ pub struct Behind<'s> {
 }
 
 /// Starts the thread that answers who asks for the counts, where somebody may. Answers whether it has started.
-fn start_metrics<'s, E, R: Wait + Clock + RandomSource + Log + Sync>(
+fn start_metrics<'s, E, R: Host>(
     scope: &Scope<'s, E>,
     rt: &'s R,
     alloc: Global,
-    behind: Behind<'s>,
+    behind: Lasting<'s>,
 ) -> bool {
     let Some(listener) = behind.listener else {
         return true;
     };
-    let office = behind.office;
-    let asker = Asker::new(rt, office, Door::Metrics);
+    let admin = behind.admin;
+    let asker = AdminService::new(rt, admin, AdminSocket::Metrics);
     scope
         .spawn(move || answer_on(alloc, asker, listener))
         .is_ok()
 }
 
 /// Starts the thread that answers through the control socket, where there is one. Answers whether it has started.
-fn start_control<'s, E, R: Wait + Clock + RandomSource + Log + Sync>(
+fn start_control<'s, E, R: Host>(
     scope: &Scope<'s, E>,
     rt: &'s R,
     alloc: Global,
-    behind: Behind<'s>,
+    behind: Lasting<'s>,
 ) -> bool {
     let Some(socket) = behind.control else {
         return true;
     };
-    let office = behind.office;
-    let asker = Asker::new(rt, office, Door::Control);
+    let admin = behind.admin;
+    let asker = AdminService::new(rt, admin, AdminSocket::Control);
     let listener = &socket.listener;
     scope
         .spawn(move || answer_on(alloc, asker, listener))
@@ -58,19 +55,19 @@ fn start_control<'s, E, R: Wait + Clock + RandomSource + Log + Sync>(
 }
 
 /// Starts the threads that outlast each configuration. Answers whether they have started.
-pub fn start_behind<'s, E, R: Wait + Clock + RandomSource + Log + Sync>(
+pub fn start_lasting<'s, E, R: Host>(
     scope: &Scope<'s, E>,
     rt: &'s R,
     alloc: Global,
-    behind: Behind<'s>,
+    behind: Lasting<'s>,
 ) -> bool {
-    let Behind {
-        office,
-        old_history,
+    let Lasting {
+        admin,
+        reclaimer,
         ..
     } = behind;
     let frees = scope
-        .spawn(move || old_history.free_on(rt, &office.is_over))
+        .spawn(move || reclaimer.free_on(rt, &admin.is_over))
         .is_ok();
     let answers = start_metrics(scope, rt, alloc, behind);
     start_control(scope, rt, alloc, behind) && answers && frees

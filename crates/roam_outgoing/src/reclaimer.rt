@@ -33,7 +33,7 @@ const STORED: u64 = 4;
 /// for another thread no longer than that takes to free a few. Workers free some as they store others, since the
 /// memory that a thread gives back is at hand for it at once; a thread beside frees the rest where little is stored.
 #[derive(Drop)]
-pub struct OldHistory {
+pub struct Reclaimer {
     waiting: Mutex<Vec<Steps>>,
     /// The parker on which the thread that frees them sleeps.
     wake: Parker,
@@ -67,10 +67,10 @@ fn take_empty(waiting: &mut Vec<Steps>) -> Option<Steps> {
     }
 }
 
-impl OldHistory {
+impl Reclaimer {
     /// Begins with nothing that waits, and with room for the steps of so many shards.
-    pub fn new(alloc: Global, shards: u16) -> Result<OldHistory, AllocError> {
-        Ok(OldHistory {
+    pub fn new(alloc: Global, shards: u16) -> Result<Reclaimer, AllocError> {
+        Ok(Reclaimer {
             waiting: Mutex::new(Vec::with_capacity(alloc, usize::from(shards))?),
             wake: Parker::new(),
             times: AtomicU64::new(0),
