@@ -73,6 +73,8 @@ impl Listener for UnixListener {
 /// The place at which connections are taken, and the descriptor in hand.
 #[derive(Drop)]
 struct Entrance<'l, L> {
+    alloc: Global,
+    admin: &'l Admin,
     listener: &'l L,
     spare: Spare,
 }
@@ -133,10 +135,8 @@ fn hindrance(error: io::Error) -> Option<io::Error> {
 /// took the descriptor in hand. Answers why none can be taken, where that is so.
 fn accept_all<R: RandomSource, L: Listener>(
     rt: &R,
-    alloc: Global,
     entrance: &mut Entrance<'_, L>,
     open: &mut Vec<OpenConnection<L::Stream>>,
-    admin: &Admin,
     now: u64,
 ) -> Option<io::Error> {
     for _ in 0..TAKEN_AT_ONCE {
@@ -147,7 +147,7 @@ fn accept_all<R: RandomSource, L: Listener>(
         let Ok(keys) = RandomState::new(rt) else {
             return None;
         };
-        make_room(open, admin);
+        make_room(open, entrance.admin);
         let limits = Limits {
             max_body_len: 0,
             ..Limits::default()
@@ -155,7 +155,7 @@ fn accept_all<R: RandomSource, L: Listener>(
         let _is_open = open
             .push(OpenConnection {
                 stream,
-                connection: Connection::new(alloc, keys, limits),
+                connection: Connection::new(entrance.alloc, keys, limits),
                 until: now.saturating_add(TIME),
                 handed: None,
                 is_written: false,
@@ -249,7 +249,12 @@ pub fn answer_on<R: Wait + Clock + RandomSource + Log, L: Listener>(
     let mut open = Vec::new(alloc);
     let mut pause = Pause::none();
     let spare = Spare::none();
-    let mut entrance = Entrance { listener, spare };
+    let mut entrance = Entrance {
+        alloc,
+        admin,
+        listener,
+        spare,
+    };
     let mut moment = 0;
     for _ in rt.forever() {
         if admin.is_over.load(Ordering::SeqCst) {
@@ -258,7 +263,7 @@ pub fn answer_on<R: Wait + Clock + RandomSource + Log, L: Listener>(
         entrance.spare.take(listener);
         moment = now(rt, admin.start, moment);
         if pause.is_over(moment) {
-            if let Some(error) = accept_all(rt, alloc, &mut entrance, &mut open, admin, moment) {
+            if let Some(error) = accept_all(rt, &mut entrance, &mut open, moment) {
                 if pause.begin(moment) {
                     warn!(rt; "no connections are accepted at {}: {}", service.socket, error);
                 }

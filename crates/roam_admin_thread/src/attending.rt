@@ -7,7 +7,6 @@ ghost use Rattle.roam_reload.specs.Reload.{MayFollow};
 use crate::configured::Configured;
 use crate::host::Host;
 use crate::keeping::Dues;
-use crate::losing::objection;
 use crate::manner::StateFile;
 use crate::next::{Next, following_of, prepare_next};
 use crate::overview::Overview;
@@ -25,7 +24,7 @@ use std::alloc::{AllocError, Global};
 
 /// The means of the server's own thread while the others serve.
 #[derive(Drop)]
-pub struct AdminThread<'s, 'c, R, H, N: Opened> {
+pub struct AdminThread<'s, 'c, 'a, R, H, N: Opened, S> {
     pub rt: &'s R,
     pub shared: &'s Shared<'s, 'c, H, N>,
     pub sockets: &'s [BoundSocket],
@@ -39,16 +38,19 @@ pub struct AdminThread<'s, 'c, R, H, N: Opened> {
     pub dues: Dues,
     /// The place that each realm has in the file; none where that is by the server's own numbers.
     pub order: Option<&'s FileOrder>,
+    /// The source of the configuration that follows.
+    pub source: &'a mut S,
 }
 
-impl<'s, 'c, R, H, N: Opened> AdminThread<'s, 'c, R, H, N> {
+impl<'s, 'c, 'a, R, H, N: Opened, S> AdminThread<'s, 'c, 'a, R, H, N, S> {
     /// Returns what it has at first.
     pub fn new(
         rt: &'s R,
         shared: &'s Shared<'s, 'c, H, N>,
         configured: &'s Configured,
         seat: Seat<Global, N>,
-    ) -> AdminThread<'s, 'c, R, H, N> {
+        source: &'a mut S,
+    ) -> AdminThread<'s, 'c, 'a, R, H, N, S> {
         AdminThread {
             rt,
             shared,
@@ -58,6 +60,7 @@ impl<'s, 'c, R, H, N: Opened> AdminThread<'s, 'c, R, H, N> {
             state: configured.manner.state.as_ref(),
             dues: Dues::at_once(),
             order: configured.manner.order.as_ref(),
+            source,
         }
     }
 }
@@ -74,7 +77,7 @@ pub fn stopping(alloc: Global) -> AdminReply {
     plain_reply(ReplyStatus::Begun, body)
 }
 
-impl<R: Host, H: HubCalls<N>, N: Opened> AdminThread<'_, '_, R, H, N> {
+impl<R: Host, H: HubCalls<N>, N: Opened, S: Source> AdminThread<'_, '_, '_, R, H, N, S> {
     /// Returns the counts of this thread, which are the timer's too.
     fn counts(&self) -> Option<ThreadCounts<'_>> {
         let shared = self.shared;
@@ -128,7 +131,7 @@ impl<R: Host, H: HubCalls<N>, N: Opened> AdminThread<'_, '_, R, H, N> {
         shared.stopping.ask();
         let end = self.now.saturating_add(grace(shared.config));
         if shared.stopping.end_at(end) {
-            shared.rest.wake();
+            shared.wake_timer();
         }
         stopping(shared.alloc)
     }
@@ -155,14 +158,14 @@ impl<R: Host, H: HubCalls<N>, N: Opened> AdminThread<'_, '_, R, H, N> {
     }
 
     /// Returns the configuration that is to follow, to which nobody objects, or why none follows.
-    fn agreed_of<S: Source>(&self, source: &mut S, is_agreed: bool) -> Result<Following, AdminReply>
+    fn agreed_of(&mut self, is_agreed: bool) -> Result<Following, AdminReply>
         ensures { IfOk result (λ following. MayFollow N.opening.config (shown following.config)) }
     {
-        let following = following_of(self.shared, source)?;
+        let following = following_of(self.shared, self.source)?;
         if is_agreed {
             return Ok(following);
         }
-        match objection(self.rt, self.shared, &self.seat, &following.config) {
+        match self.objection(&following.config) {
             Some(reply) => Err(reply),
             None => Ok(following),
         }
@@ -170,22 +173,22 @@ impl<R: Host, H: HubCalls<N>, N: Opened> AdminThread<'_, '_, R, H, N> {
 
     /// Returns the configuration that is to follow, to which nobody objects, with all that the server needs for it,
     /// and whether it was agreed to; or why none follows.
-    fn next_of<S: Source>(&self, source: &mut S, is_agreed: bool) -> Result<Next, AdminReply>
+    fn next_of(&mut self, is_agreed: bool) -> Result<Next, AdminReply>
         ensures may { IfOk result (λ next. MayFollow N.opening.config (shown next.configured.config)) }
         ensures agreed { IfOk result (λ next. next.is_agreed ≡ is_agreed) }
     {
-        let following = self.agreed_of(source, is_agreed)?;
-        let mut next = prepare_next(self.rt, self.shared, self.sockets, source, following)?;
+        let following = self.agreed_of(is_agreed)?;
+        let mut next = prepare_next(self.rt, self.shared, self.sockets, self.source, following)?;
         next.is_agreed = is_agreed;
         Ok(next)
     }
 
     /// Has a configuration come that is to follow, or answers why none does.
-    fn reload<S: Source>(&mut self, source: &mut S, is_agreed: bool) -> Result<Next, AdminReply>
+    fn reload(&mut self, is_agreed: bool) -> Result<Next, AdminReply>
         ensures may { IfOk result (λ next. MayFollow N.opening.config (shown next.configured.config)) }
         ensures agreed { IfOk result (λ next. next.is_agreed ≡ is_agreed) }
     {
-        match self.next_of(source, is_agreed) {
+        match self.next_of(is_agreed) {
             Ok(next) => {
                 self.let_go_all();
                 Ok(next)
@@ -199,7 +202,7 @@ impl<R: Host, H: HubCalls<N>, N: Opened> AdminThread<'_, '_, R, H, N> {
     }
 
     /// Answers a request through the control socket, unless a configuration comes by it that is to follow.
-    fn answer<S: Source>(&mut self, request: AdminRequest, source: &mut S) -> Option<Next>
+    fn answer(&mut self, request: AdminRequest) -> Option<Next>
         ensures may { IfSome result (λ next.
             MayFollow N.opening.config (shown next.configured.config)) }
         ensures agreed { IfSome result (λ next. request ≡ AdminRequest.Reload next.is_agreed) }
@@ -210,7 +213,7 @@ impl<R: Host, H: HubCalls<N>, N: Opened> AdminThread<'_, '_, R, H, N> {
             AdminRequest::Status(form) => self.status(form),
             AdminRequest::Stop => Ok(self.stop()),
             AdminRequest::Trace(shard) => self.trace(shard),
-            AdminRequest::Reload(is_agreed) => match self.reload(source, is_agreed) {
+            AdminRequest::Reload(is_agreed) => match self.reload(is_agreed) {
                 Ok(next) => return Some(next),
                 Err(reply) => Ok(reply),
             },
@@ -232,17 +235,17 @@ impl<R: Host, H: HubCalls<N>, N: Opened> AdminThread<'_, '_, R, H, N> {
     }
 
     /// Answers who asks in either queue, unless a configuration comes by it that is to follow.
-    fn poll<S: Source>(&mut self, source: &mut S) -> Option<Next>
+    fn poll(&mut self) -> Option<Next>
         ensures { IfSome result (λ next.
             MayFollow N.opening.config (shown next.configured.config)) }
     {
         self.answer_metrics();
         let request = self.shared.admin.control.request(self.rt)?;
-        self.answer(request, source)
+        self.answer(request)
     }
 
     /// Answers who asks, and keeps the ledgers of sessions, until the threads end or another configuration follows.
-    pub fn run<S: Source>(&mut self, source: &mut S) -> Option<Next>
+    pub fn run(&mut self) -> Option<Next>
         ensures { IfSome result (λ next.
             MayFollow N.opening.config (shown next.configured.config)) }
     {
@@ -252,10 +255,10 @@ impl<R: Host, H: HubCalls<N>, N: Opened> AdminThread<'_, '_, R, H, N> {
                 self.tell_dropped_at_end();
                 return None;
             }
-            if let Some(next) = self.poll(source) {
+            if let Some(next) = self.poll() {
                 return Some(next);
             }
-            self.keep_and_rest(source);
+            self.keep_and_rest();
         }
         unreachable!()
     }

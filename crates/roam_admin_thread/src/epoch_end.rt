@@ -1,10 +1,9 @@
-//! The end of the time under a configuration.
+//! The end of an epoch.
 
-use crate::configured::Handover;
 use crate::next::Next;
 use roam_sockets::ServeFault;
 
-/// The end of the time under a configuration.
+/// The end of an epoch, which is the time under one configuration.
 #[derive(Drop)]
 pub enum EpochEnd {
     /// The server ends.
@@ -13,7 +12,7 @@ pub enum EpochEnd {
     Follows(Next),
     /// The threads and sockets couldn't be started, for this fault: whoever asked for the configuration isn't answered
     /// yet.
-    Failed(ServeFault, Handover),
+    Failed(ServeFault),
 }
 
 impl EpochEnd {
@@ -21,15 +20,7 @@ impl EpochEnd {
     pub fn is_over(&self) -> bool {
         match self {
             EpochEnd::Over => true,
-            EpochEnd::Failed(_, _) | EpochEnd::Follows(_) => false,
-        }
-    }
-
-    /// Returns whether what serves couldn't be started.
-    pub fn has_failed(&self) -> bool {
-        match self {
-            EpochEnd::Failed(_, _) => true,
-            EpochEnd::Over | EpochEnd::Follows(_) => false,
+            EpochEnd::Failed(_) | EpochEnd::Follows(_) => false,
         }
     }
 }

@@ -10,68 +10,16 @@ use crate::next::out_of_memory;
 use log::Log;
 use roam_admin::{AdminReply, ReplyStatus, plain_reply};
 use roam_conf::{Config, Realm};
-use roam_history::{Opened, Seat};
+use roam_history::Opened;
 use roam_log::{DropCause, DroppedText};
 use roam_logger::tell_dropped;
 use roam_migrate::{Loss, changed_peers};
 use roam_realm::Gauges;
 use roam_reload::{RealmKey, has_same_outs, has_same_servers, is_other_in};
-use roam_workers::{HubCalls, Shared};
+use roam_workers::HubCalls;
 use std::alloc::{AllocError, Global};
 use std::io::Write;
 use std::sync::Wait;
-
-/// Returns what goes of the realm of an index; nothing where that isn't known.
-fn loss_at<R: Wait, H: HubCalls<N>, N: Opened>(
-    rt: &R,
-    shared: &Shared<'_, '_, H, N>,
-    seat: &Seat<Global, N>,
-    realm: u16,
-    next: &Config,
-    changed: &[u16],
-) -> Loss
-    requires { AreChanged N.opening.config.peers (shown next.now).peers changed.now }
-{
-    match shared.hub.losses(rt, seat, realm, next, changed) {
-        Some(loss) => loss,
-        None => Loss {
-            waiting: 0,
-            held: 0,
-            sessions: 0,
-        },
-    }
-}
-
-/// Lists the peers that have other tables in a configuration that follows.
-fn changed_of<H, N: Opened>(
-    shared: &Shared<'_, '_, H, N>,
-    next: &Config,
-) -> Result<Vec<u16>, AllocError>
-    ensures { IfOk result (λ changed.
-        AreChanged N.opening.config.peers (shown next.now).peers changed.items) }
-{
-    let alloc = shared.alloc;
-    match changed_peers(alloc, shared.config.peers.as_slice(), next.peers.as_slice()) {
-        Ok(changed) => Ok(changed),
-        Err(_) => Err(AllocError),
-    }
-}
-
-/// Returns what goes of each realm where a configuration follows.
-fn all_losses<R: Wait, H: HubCalls<N>, N: Opened>(
-    rt: &R,
-    shared: &Shared<'_, '_, H, N>,
-    seat: &Seat<Global, N>,
-    next: &Config,
-) -> Result<Vec<Loss>, AllocError> {
-    let changed = changed_of(shared, next)?;
-    let mut losses = Vec::new(shared.alloc);
-    for realm in 0..shared.config.realms.len() {
-        let loss = loss_at(rt, shared, seat, realm as u16, next, changed.as_slice());
-        losses.push(loss)?;
-    }
-    Ok(losses)
-}
 
 /// Returns whether no request that waits and no session goes: held replies stop no change.
 fn is_nothing(loss: &Loss) -> bool {
@@ -154,25 +102,65 @@ pub fn tell_what_went<R: Log>(rt: &R, config: &Config, losses: &[Loss]) {
     }
 }
 
-/// Returns why a configuration isn't followed to which nobody agreed: a request that waits or a session would be lost
-/// by it as the realms stand now. The workers serve meanwhile, so it is looked again when they have ended.
-pub fn objection<R: Wait, H: HubCalls<N>, N: Opened>(
-    rt: &R,
-    shared: &Shared<'_, '_, H, N>,
-    seat: &Seat<Global, N>,
-    next: &Config,
-) -> Option<AdminReply> {
-    let Ok(losses) = all_losses(rt, shared, seat, next) else {
-        return Some(out_of_memory(shared.alloc));
-    };
-    if losses.iter().all(|loss| is_nothing(loss)) {
-        return None;
+impl<R: Wait, H: HubCalls<N>, N: Opened, S> AdminThread<'_, '_, '_, R, H, N, S> {
+    /// Returns what goes of the realm of an index; nothing where that isn't known.
+    fn loss_at(&self, realm: u16, next: &Config, changed: &[u16]) -> Loss
+        requires { AreChanged N.opening.config.peers (shown next.now).peers changed.now }
+    {
+        match self
+            .shared
+            .hub
+            .losses(self.rt, &self.seat, realm, next, changed)
+        {
+            Some(loss) => loss,
+            None => Loss {
+                waiting: 0,
+                held: 0,
+                sessions: 0,
+            },
+        }
     }
-    let why = why_not(shared.alloc, shared.config, Some(next), losses.as_slice());
-    Some(plain_reply(ReplyStatus::Declined, why))
+
+    /// The peers that have other tables in a configuration that follows.
+    fn changed_of(&self, next: &Config) -> Result<Vec<u16>, AllocError>
+        ensures { IfOk result (λ changed.
+            AreChanged N.opening.config.peers (shown next.now).peers changed.items) }
+    {
+        let shared = self.shared;
+        let before = shared.config.peers.as_slice();
+        match changed_peers(shared.alloc, before, next.peers.as_slice()) {
+            Ok(changed) => Ok(changed),
+            Err(_) => Err(AllocError),
+        }
+    }
+
+    /// Returns what goes of each realm where a configuration follows.
+    fn all_losses(&self, next: &Config) -> Result<Vec<Loss>, AllocError> {
+        let changed = self.changed_of(next)?;
+        let mut losses = Vec::new(self.shared.alloc);
+        for realm in 0..self.shared.config.realms.len() {
+            let loss = self.loss_at(realm as u16, next, changed.as_slice());
+            losses.push(loss)?;
+        }
+        Ok(losses)
+    }
+
+    /// Returns why a configuration isn't followed to which nobody agreed: a request that waits or a session would be
+    /// lost by it as the realms stand now. The workers serve meanwhile, so it is looked again when they have ended.
+    pub fn objection(&self, next: &Config) -> Option<AdminReply> {
+        let shared = self.shared;
+        let Ok(losses) = self.all_losses(next) else {
+            return Some(out_of_memory(shared.alloc));
+        };
+        if losses.iter().all(|loss| is_nothing(loss)) {
+            return None;
+        }
+        let why = why_not(shared.alloc, shared.config, Some(next), losses.as_slice());
+        Some(plain_reply(ReplyStatus::Declined, why))
+    }
 }
 
-impl<R: Wait + Log, H: HubCalls<N>, N: Opened> AdminThread<'_, '_, R, H, N> {
+impl<R: Wait + Log, H: HubCalls<N>, N: Opened, S> AdminThread<'_, '_, '_, R, H, N, S> {
     /// Returns how a realm stands that is here, by its index.
     fn standing_of(&self, index: u16) -> Option<Gauges> {
         let shared = self.shared;

@@ -6,22 +6,21 @@ ghost use Rattle.roam_reload.specs.Reload.{MayFollow};
 ghost use Rattle.roam_history.specs.Books.{count_of};
 
 use crate::configured::Configured;
-use crate::fresh::FreshMeans;
+use crate::epoch_parts::EpochParts;
 use crate::host::Host;
 use crate::manner::Manner;
 use crate::source::{Following, Source};
-use crate::thread_parts::Kits;
 use crate::trial::can_start;
 use log::Log;
 use roam_admin::{AdminReply, ReplyStatus, plain_reply};
 use roam_conf::Config;
-use roam_history::{Blanks, Opened};
+use roam_history::Opened;
 use roam_logger::{Notice, tell_or_drop};
 use roam_outgoing::Counters;
 use roam_sockets::{
     BoundSocket, RECEIVE_BUFFER, ServeFault, bind_following, descriptors_wanted, open_beside, widen,
 };
-use roam_workers::{HubCalls, Rests, Shared};
+use roam_workers::{HubCalls, Shared};
 use std::alloc::Global;
 use std::io::Write;
 use std::net::Net;
@@ -32,15 +31,13 @@ pub struct Next {
     pub configured: Configured,
     /// The answer to whoever asked for it.
     pub report: Vec<u8>,
-    pub kits: Kits,
-    pub rests: Rests,
-    pub blanks: Blanks<Global>,
+    pub parts: EpochParts,
     /// True where whoever asked agreed to lose by it what waits, is held or is open. Else it follows only where nothing
     /// is lost.
     pub is_agreed: bool,
     /// Memory that is given back before the threads start again, for what they are made of then.
     pub spare: Vec<u8>,
-    ghost one_for_each: { count_of blanks ≡ configured.config.top.shards },
+    ghost one_for_each: { count_of parts.blanks ≡ configured.config.top.shards },
 }
 
 /// The spare octets: for each socket, for the stack of each thread, and beside them.
@@ -169,17 +166,11 @@ fn make_next<R: Host, H: HubCalls<N>, N: Opened>(
     let configured = bind_next(rt, shared, sockets, config, manner)?;
     let wanted = descriptors_wanted(shared.config, &configured.config);
     let spare = room_for_threads(rt, alloc, &configured)?;
-    let FreshMeans {
-        kits,
-        rests,
-        blanks,
-    } = FreshMeans::new(rt, alloc, &configured, wanted)?;
+    let parts = EpochParts::new(rt, alloc, &configured, wanted)?;
     Ok(Next {
         configured,
         report,
-        kits,
-        rests,
-        blanks,
+        parts,
         is_agreed: false,
         spare,
     })

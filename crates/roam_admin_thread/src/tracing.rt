@@ -2,13 +2,14 @@
 
 use crate::attending::{AdminThread, bare};
 use crate::host::Host;
+use crate::source::Source;
 use roam_admin::{AdminReply, Handed, Numbering, ReplyStatus, script_of};
 use roam_history::{HubFault, Opened};
 use roam_shard::Step;
 use roam_workers::HubCalls;
 use std::alloc::{AllocError, Global};
 
-impl<R: Host, H: HubCalls<N>, N: Opened> AdminThread<'_, '_, R, H, N> {
+impl<R: Host, H: HubCalls<N>, N: Opened, S: Source> AdminThread<'_, '_, '_, R, H, N, S> {
     /// Returns these steps of a shard as a script, by the numbers of the file, behind how many are missing before them.
     fn script(
         &self,

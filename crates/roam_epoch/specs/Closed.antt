@@ -1,5 +1,5 @@
 -- The rest of a hub that was closed, and what follows the time under a configuration (ours).
-use Rattle.std.specs.Prelude.{◌≡◌, List}
+use Rattle.std.specs.Prelude.{◌≡◌, ◌⊎◌, List}
 use Rattle.roam_conf.specs.Config.{ConfigView}
 use Rattle.roam_conf.specs.Shown.{shown}
 use Rattle.roam_reload.specs.Reload.{MayFollow}
@@ -9,10 +9,9 @@ use Rattle.roam_history.specs.HubOpening.{HubOpening}
 use Rattle.roam_hub.specs.Histories.{AreHistories}
 use Rattle.roam_hub.specs.Pausing.{ArePaused, StandAtEnd}
 use Rattle.roam_sockets.specs.Faults.{IsAfterBinding}
+use Rattle.roam_sockets.specs.declared.fault.ServeFault.{ServeFault}
 use Rattle.roam_admin_thread.specs.declared.epoch_end.EpochEnd.{EpochEnd}
 use Rattle.roam_admin_thread.specs.declared.epoch_end.EpochEnd.TheVariants as ends
-use Rattle.roam_epoch.specs.declared.parts.Unserved.{Unserved}
-use Rattle.roam_epoch.specs.declared.parts.Unserved.TheVariants as unserved
 use Rattle.std.specs.declared.alloc.Global.{Global}
 
 module _ {A : Type 0} where
@@ -33,9 +32,10 @@ module _ {A : Type 0} where
 abbrev pub MayGoOn : ConfigView → EpochEnd → Type 0
 MayGoOn config ends.Over = Unit {0}
 MayGoOn config (ends.Follows next) = MayFollow config (shown next.configured.config)
-MayGoOn config (ends.Failed fault handover) = IsAfterBinding fault
+MayGoOn config (ends.Failed fault) = IsAfterBinding fault
 
--- why shards aren't served: the server ends, or they come back as they were
-abbrev pub IsUnserved : List (Paused Global) → Unserved → Type 0
-IsUnserved shards (unserved.Fault fault) = IsAfterBinding fault
-IsUnserved shards (unserved.Closed back means) = back.items ≡ shards
+-- the end of an epoch over these shards: those that are handed on stand where histories end that were audited. Or
+-- nothing was done over them, and they come back as they were: then no thread was started
+abbrev pub HasEnded : HubOpening → List (Paused Global) → EpochEnd → List (Paused Global) → Type 0
+HasEnded o before end after = EndSomewhere o after
+    ⊎ ((after ≡ before) × (fault : ServeFault) × (end ≡ ends.Failed fault))

@@ -1,55 +1,41 @@
-//! The hub is closed, and what it kept is audited.
+//! An epoch's hub is closed, and what it kept is audited.
 
 ghost use Rattle.std.specs.Prelude.{◌≡◌, IfErr, IfOk, length};
 ghost use Rattle.roam_history.specs.Shown.{recorded};
-ghost use Rattle.roam_workers.specs.JobCounts.{AreAllTaken};
-ghost use Rattle.roam_epoch.specs.Closed.{EndsOf, MayGoOn};
+ghost use Rattle.roam_epoch.specs.Closed.{EndSomewhere, EndsOf};
 ghost use Rattle.roam_sockets.specs.Faults.{IsAfterBinding};
 ghost use Rattle.roam_workers.specs.Endings.{job_counts_of};
+ghost use Rattle.roam_workers.specs.JobCounts.{AreAllTaken};
 
+use crate::carryover::Carryover;
+use crate::epoch::Epoch;
 use crate::given_back::given_back;
-use crate::parts::Left;
-use crate::room::RunResult;
-use roam_admin_thread::EpochEnd;
+use crate::room::EpochRoom;
 use roam_hub::{Audited, Hub, Opened, PauseRoom, Paused, PausedHub, Seat};
 use roam_sockets::ServeFault;
-use roam_workers::{Ended, LockedQueue};
+use roam_workers::Ended;
 use std::alloc::Global;
 use std::sync::Wait;
 
-/// A hub that is open, with the memory with which it is paused.
-#[derive(Drop)]
-pub struct PausableHub<'c, N: Opened> {
-    pub hub: Hub<'c, Global, N>,
-    pub pause: PauseRoom<'c, Global, N>,
-}
-
-/// The rest of a hub that was closed: its report, which passed the audit, and its shards, by number.
-pub struct AuditedHub<N: Opened> {
-    pub audited: Audited<Global, N>,
-    pub shards: Vec<Paused<Global>>,
-}
-
-/// Closes a hub, and audits what it kept by the seats of its threads. Its shards stand where the histories end that
-/// were audited.
+/// Closes a hub with the memory for it, and audits what it kept by the seats of its threads. Its shards stand where the
+/// histories end that were audited: they come behind its report, which passed the audit.
 ///
 /// # Errors
 ///
 /// `Audit`, where it isn't passed, or a lock holds another shard's history.
-pub fn close_and_audit<R: Wait, N: Opened>(
+pub fn close_and_audit<'c, R: Wait, N: Opened>(
     rt: &R,
-    hub: PausableHub<'_, N>,
+    hub: Hub<'c, Global, N>,
+    pause: PauseRoom<'c, Global, N>,
     seats: Vec<Seat<Global, N>>,
-) -> Result<AuditedHub<N>, ServeFault>
-    ensures ends { IfOk result (λ closed.
-        EndsOf N.opening (recorded closed.audited.report) closed.shards.items) }
-    ensures seats { IfOk result (λ closed. closed.audited.seats ≡ seats) }
+) -> Result<(Audited<Global, N>, Vec<Paused<Global>>), ServeFault>
+    ensures ends { IfOk result (λ closed. EndsOf N.opening (recorded closed.0.report) closed.1.items) }
+    ensures seats { IfOk result (λ closed. closed.0.seats ≡ seats) }
     ensures err { IfErr result IsAfterBinding }
 {
-    let PausableHub { hub, pause } = hub;
     match hub.pause(rt, pause) {
         Ok(PausedHub { report, shards }) => match report.audited(seats) {
-            Ok(audited) => Ok(AuditedHub { audited, shards }),
+            Ok(audited) => Ok((audited, shards)),
             Err(_) => {
                 drop(shards);
                 Err(ServeFault::Audit)
@@ -67,37 +53,37 @@ pub fn close_and_audit<R: Wait, N: Opened>(
 /// # Errors
 ///
 /// `Audit`.
-fn close_ended<R: Wait, N: Opened>(
+fn close_ended<'c, R: Wait, N: Opened>(
     rt: &R,
-    hub: PausableHub<'_, N>,
-    end: EpochEnd,
+    hub: Hub<'c, Global, N>,
+    pause: PauseRoom<'c, Global, N>,
     ended: Ended<N>,
-) -> Result<Left<N>, ServeFault>
-    requires { MayGoOn N.opening.config end }
-    ensures ends { IfOk result (λ left.
-        EndsOf N.opening (recorded left.closed.audited.report) left.closed.shards.items) }
-    ensures may { IfOk result (λ left. MayGoOn N.opening.config left.end) }
+    left: Carryover,
+) -> Result<Carryover, ServeFault>
+    ensures ends { IfOk result (λ carry. EndSomewhere N.opening carry.shards.items) }
     ensures err { IfErr result IsAfterBinding }
 {
     let Ended {
         has_given_up: _,
-        datagrams,
+        datagrams: _,
         jobs,
         seats,
         outboxes,
         rests,
     } = ended;
     drop(jobs);
-    match close_and_audit(rt, hub, seats) {
-        Ok(closed) => Ok(Left {
-            end,
-            datagrams,
-            outboxes,
-            rests,
-            closed,
-        }),
+    match close_and_audit(rt, hub, pause, seats) {
+        Ok((audited, shards)) => {
+            let mut carry = left;
+            carry.steps = carry.steps.saturating_add(audited.report().count_steps());
+            drop(audited);
+            carry.outboxes = outboxes;
+            carry.rests = rests;
+            carry.shards = shards;
+            Ok(carry)
+        }
         Err(fault) => {
-            drop(end);
+            drop(left);
             drop(outboxes);
             drop(rests);
             Err(fault)
@@ -112,24 +98,34 @@ fn close_ended<R: Wait, N: Opened>(
 /// `Receive`, where a socket was given up, and `Audit`.
 pub fn close_after<R: Wait, N: Opened>(
     rt: &R,
-    hub: PausableHub<'_, N>,
-    queues: Vec<LockedQueue<N>>,
-    run: RunResult<N>,
-) -> Result<Left<N>, ServeFault>
-    requires { MayGoOn N.opening.config run.end }
-    ensures jobs { IfOk result (λ left.
-        AreAllTaken (λ v. v.items) (length queues.items) (job_counts_of run.results.ends.items)) }
-    ensures ends { IfOk result (λ left.
-        EndsOf N.opening (recorded left.closed.audited.report) left.closed.shards.items) }
-    ensures may { IfOk result (λ left. MayGoOn N.opening.config left.end) }
+    epoch: Epoch<'_, N>,
+    room: EpochRoom<N>,
+    left: Carryover,
+) -> Result<Carryover, ServeFault>
+    ensures jobs { IfOk result (λ carry.
+        AreAllTaken (λ v. v.items) (length epoch.queues.items) (job_counts_of room.ends.items)) }
+    ensures ends { IfOk result (λ carry. EndSomewhere N.opening carry.shards.items) }
     ensures err { IfErr result IsAfterBinding }
 {
-    let RunResult { end, results } = run;
-    match given_back(results, queues) {
-        Ok(ended) => close_ended(rt, hub, end, ended),
+    let Epoch {
+        configured: _,
+        hub,
+        pause,
+        queues,
+        wakers,
+        logger,
+        stop: _,
+        rest,
+    } = epoch;
+    drop(wakers);
+    drop(logger);
+    drop(rest);
+    match given_back(room, queues) {
+        Ok(ended) => close_ended(rt, hub, pause, ended, left),
         Err(fault) => {
-            drop(end);
             drop(hub);
+            drop(pause);
+            drop(left);
             Err(fault)
         }
     }

@@ -1,4 +1,4 @@
-//! The things that a hub's threads gave back.
+//! The things that an epoch's threads gave back.
 
 ghost use Rattle.std.specs.Prelude.{◌≡◌, ◌⊎◌, ◌↔◌, [], ◌∷◌, ◌++◌, IsTrue, IfOk, IfErr, OnOk, Contains, length};
 ghost use Rattle.roam_counters.specs.Datagrams.{all_of, both};
@@ -7,7 +7,7 @@ ghost use Rattle.roam_workers.specs.Endings.{datagrams_of, endings_of, job_count
 ghost use Rattle.roam_workers.specs.declared.worker_result.ExitReason.TheVariants as ending;
 ghost use Rattle.roam_sockets.specs.Faults.{IsAfterBinding};
 
-use crate::room::Results;
+use crate::room::EpochRoom;
 use roam_counters::Datagrams;
 use roam_hub::Opened;
 use roam_sockets::ServeFault;
@@ -50,19 +50,21 @@ fn add<N: Opened>(ended: &mut Ended<N>, end: WorkerResult<N>) -> Result<(), Serv
 }
 
 /// Returns what the workers gave back, in lists in which there is room for it.
-fn gather<N: Opened>(results: Results<N>) -> Result<Ended<N>, ServeFault>
+fn gather<N: Opened>(room: EpochRoom<N>) -> Result<Ended<N>, ServeFault>
     ensures gave_up { IfOk result (λ e. IsTrue e.has_given_up
-        ↔ Contains (endings_of results.ends.items) ending.GaveUp) }
-    ensures datagrams { IfOk result (λ e. e.datagrams.counts ≡ all_of (datagrams_of results.ends.items)) }
-    ensures jobs { IfOk result (λ e. e.jobs.items ≡ job_counts_of results.ends.items) }
+        ↔ Contains (endings_of room.ends.items) ending.GaveUp) }
+    ensures datagrams { IfOk result (λ e. e.datagrams.counts ≡ all_of (datagrams_of room.ends.items)) }
+    ensures jobs { IfOk result (λ e. e.jobs.items ≡ job_counts_of room.ends.items) }
     ensures err { IfErr result IsAfterBinding }
 {
-    let Results {
+    let EpochRoom {
+        handles,
         ends,
         seats,
         outboxes,
         jobs,
-    } = results;
+    } = room;
+    drop(handles);
     let datagrams = Datagrams::none();
     let mut ended = Ended {
         has_given_up: false,
@@ -89,14 +91,14 @@ fn gather<N: Opened>(results: Results<N>) -> Result<Ended<N>, ServeFault>
 ///
 /// `Receive`, where a socket was given up; `Audit`, where a job was handed on that nobody took over, or that two did.
 pub fn given_back<N: Opened>(
-    results: Results<N>,
+    room: EpochRoom<N>,
     queues: Vec<LockedQueue<N>>,
 ) -> Result<Ended<N>, ServeFault>
     ensures jobs { IfOk result (λ e.
-        AreAllTaken (λ v. v.items) (length queues.items) (job_counts_of results.ends.items)) }
+        AreAllTaken (λ v. v.items) (length queues.items) (job_counts_of room.ends.items)) }
     ensures err { IfErr result IsAfterBinding }
 {
-    match gather(results) {
+    match gather(room) {
         Ok(ended) => {
             let are_taken = audit_jobs(queues, ended.jobs.as_slice());
             if ended.has_given_up {

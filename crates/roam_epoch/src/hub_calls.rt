@@ -1,6 +1,6 @@
 //! The hub as its threads see it: each of their calls is the hub's own, and nobody is held inside a shard's lock.
 
-use crate::audit::PausableHub;
+use crate::epoch::Epoch;
 use roam_admission::Job;
 use roam_conf::{Config, ExchangeLines};
 use roam_hub::{Answered, Call, Gauges, HubFault, Open, Opened, Refused, Seat, Ticked};
@@ -12,7 +12,7 @@ use roam_workers::HubCalls;
 use std::alloc::{AllocError, Global};
 use std::sync::Wait;
 
-impl<N: Opened> HubCalls<N> for PausableHub<'_, N> {
+impl<N: Opened> HubCalls<N> for Epoch<'_, N> {
     fn answer<R: Wait>(
         &self,
         rt: &R,

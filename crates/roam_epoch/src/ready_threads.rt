@@ -1,13 +1,12 @@
-//! The threads of a server, before they start.
+//! The threads of an epoch, before they start.
 
 ghost use Rattle.std.specs.Prelude.{IfErr};
 ghost use Rattle.roam_sockets.specs.Faults.{IsAfterBinding};
 
-use crate::thread_parts::{Part, Parts, parts_of};
 use mio::{Events, Poll};
-use roam_admin_thread::{ThreadKits, ThreadParts};
+use roam_admin_thread::ThreadParts;
 use roam_counters::Datagrams;
-use roam_history::{Opened, Seat};
+use roam_history::{Opened, Seat, split};
 use roam_log::Exchange;
 use roam_logger::{ExchangeQueues, Logger, Notice};
 use roam_outgoing::{Counting, EventCounts, Outgoing, RoomEvents};
@@ -20,7 +19,7 @@ use std::alloc::{AllocError, Global};
 /// The number of octets of a line for which room is made at the start.
 const LINE: usize = 4096;
 
-/// The threads of a configuration, before they start: those that take part in the hub, and the logger.
+/// The threads of an epoch, before they start: those that take part in the hub, and the logger.
 #[derive(Drop)]
 pub struct ReadyThreads<'s, 'c, H, N: Opened> {
     pub workers: Vec<Worker<'s, 'c, H, N>>,
@@ -28,37 +27,17 @@ pub struct ReadyThreads<'s, 'c, H, N: Opened> {
     pub logger: Logger<'s>,
 }
 
-/// The equipment of a worker or the timer: what its kit leaves it, where it waits for what comes, and room for a
-/// datagram.
+/// The things of which the threads that take part in the hub are made.
 #[derive(Drop)]
-struct Equipped<'s, 'c, H, N: Opened> {
-    context: WorkerContext<'s, 'c, H, N>,
-    arrivals: Poll,
-    buffer: Vec<u8>,
-}
-
-/// The logger's ends of all queues.
-#[derive(Drop)]
-struct Queues<'s> {
-    notices: Vec<Consumer<Notice>>,
-    lines: ExchangeQueues<'s>,
-}
-
-impl Queues<'_> {
-    /// Takes the logger's ends of one thread's queues.
-    fn take(
-        &mut self,
-        notices: Consumer<Notice>,
-        lines: Option<Consumer<Exchange>>,
-    ) -> Result<(), ServeFault>
-        ensures { IfErr result IsAfterBinding }
-    {
-        self.notices.push(notices)?;
-        if let Some(lines) = lines {
-            self.lines.queues.push(lines)?;
-        }
-        Ok(())
-    }
+pub struct Crew<N: Opened> {
+    /// The seat from which each thread's is split off.
+    pub seat: Seat<Global, N>,
+    pub timer: ThreadParts,
+    pub workers: Vec<ThreadParts>,
+    /// Outboxes in which packets may wait that others left there: of each worker in turn, and of the timer.
+    pub outboxes: Vec<Outbox<Global>>,
+    /// The home servers that do not answer, as it was told.
+    pub rests: Rests,
 }
 
 /// Returns what the thread of a number counts by.
@@ -78,39 +57,86 @@ fn counting_of<'s, 'c, H, N: Opened>(
     })
 }
 
-/// Makes the threads of a configuration.
+/// Returns the logger of threads that share these, without a queue.
+fn make_logger<'s, 'c, H, N: Opened>(
+    shared: &'s Shared<'s, 'c, H, N>,
+) -> Result<Logger<'s>, ServeFault>
+    ensures { IfErr result IsAfterBinding }
+{
+    let alloc = shared.alloc;
+    Ok(Logger {
+        queues: Vec::new(alloc),
+        lines: ExchangeQueues {
+            queues: Vec::new(alloc),
+            stations: shared.stations,
+            counts: match shared.counters {
+                Some(counters) => counters.of_thread(usize::from(shared.config.top.shards)),
+                None => None,
+            },
+            dropped: 0,
+        },
+        line: Vec::with_capacity(alloc, LINE)?,
+    })
+}
+
+/// Gives the logger its ends of one thread's queues.
+fn give_queues(
+    logger: &mut Logger<'_>,
+    notices: Consumer<Notice>,
+    lines: Option<Consumer<Exchange>>,
+) -> Result<(), ServeFault>
+    ensures { IfErr result IsAfterBinding }
+{
+    logger.queues.push(notices)?;
+    if let Some(lines) = lines {
+        logger.lines.queues.push(lines)?;
+    }
+    Ok(())
+}
+
+/// A seat that is split off this one, behind what is left of that.
+fn split_off<N: Opened>(
+    seat: Seat<Global, N>,
+) -> Result<(Seat<Global, N>, Seat<Global, N>), ServeFault>
+    ensures { IfErr result IsAfterBinding }
+{
+    match split(seat) {
+        Ok((rest, seat)) => Ok((rest, seat)),
+        Err(_) => Err(ServeFault::Memory),
+    }
+}
+
+/// Takes the first outbox, or where there is none one in which nothing waits, and that grows as its thread starts.
+fn next_outbox(
+    alloc: Global,
+    outboxes: &mut Vec<Outbox<Global>>,
+) -> Result<Outbox<Global>, ServeFault>
+    ensures { IfErr result IsAfterBinding }
+{
+    if outboxes.is_empty() {
+        return Ok(Outbox::new(alloc, 0)?);
+    }
+    Ok(outboxes.remove(0))
+}
+
+/// Makes the threads of an epoch.
 #[derive(Drop)]
 struct Builder<'s, 'c, H, N: Opened> {
     sockets: &'s [BoundSocket],
     shared: &'s Shared<'s, 'c, H, N>,
-    queues: Queues<'s>,
+    logger: Logger<'s>,
 }
 
 impl<'s, 'c, H, N: Opened> Builder<'s, 'c, H, N> {
-    /// Has made no thread yet.
-    fn new(sockets: &'s [BoundSocket], shared: &'s Shared<'s, 'c, H, N>) -> Builder<'s, 'c, H, N> {
-        let alloc = shared.alloc;
-        Builder {
-            sockets,
-            shared,
-            queues: Queues {
-                notices: Vec::new(alloc),
-                lines: ExchangeQueues {
-                    queues: Vec::new(alloc),
-                    stations: shared.stations,
-                    counts: match shared.counters {
-                        Some(counters) => counters.of_thread(usize::from(shared.config.top.shards)),
-                        None => None,
-                    },
-                    dropped: 0,
-                },
-            },
-        }
-    }
-
-    /// Returns what the thread of this number has, a worker or the timer. The packets that still wait in its outbox
-    /// are sent, where there is room for them now.
-    fn equip(&mut self, number: usize, part: Part<N>) -> Result<Equipped<'s, 'c, H, N>, ServeFault>
+    /// Returns what the thread of this number has, a worker or the timer, where it waits for what comes, and room for a
+    /// datagram. The packets that still wait in its outbox are sent, where there is room for them now.
+    fn equip(
+        &mut self,
+        number: usize,
+        seat: Seat<Global, N>,
+        outbox: Outbox<Global>,
+        parts: ThreadParts,
+    ) -> Result<(WorkerContext<'s, 'c, H, N>, Poll, Vec<u8>), ServeFault>
         ensures { IfErr result IsAfterBinding }
     {
         let shared = self.shared;
@@ -119,7 +145,6 @@ impl<'s, 'c, H, N: Opened> Builder<'s, 'c, H, N> {
         let ports = ports(shared.alloc, self.sockets, numbers, number, workers)?;
         let counting = counting_of(shared, number)?;
         let counts = counting.counts;
-        let Part { seat, outbox, kit } = part;
         let ThreadParts {
             polls,
             notices,
@@ -128,8 +153,8 @@ impl<'s, 'c, H, N: Opened> Builder<'s, 'c, H, N> {
             lines,
             room_events: events,
             buffer,
-        } = kit;
-        self.queues.take(queue, lines)?;
+        } = parts;
+        give_queues(&mut self.logger, queue, lines)?;
         let poll = polls.room;
         let room = RoomEvents { poll, events };
         let outgoing = Outgoing::new(shared.alloc, outbox, ports, shared.losses, counts, room)?;
@@ -146,16 +171,18 @@ impl<'s, 'c, H, N: Opened> Builder<'s, 'c, H, N> {
             free_again_at: 0,
             junk: Junk::none(shared.alloc),
         };
-        Ok(Equipped {
-            context,
-            arrivals: polls.arrivals,
-            buffer,
-        })
+        Ok((context, polls.arrivals, buffer))
     }
 
     /// Makes a worker of this number. Two events more than it has sockets may come: that it is woken, and that
     /// sockets have room again.
-    fn worker(&mut self, number: usize, part: Part<N>) -> Result<Worker<'s, 'c, H, N>, ServeFault>
+    fn worker(
+        &mut self,
+        number: usize,
+        seat: Seat<Global, N>,
+        outbox: Outbox<Global>,
+        parts: ThreadParts,
+    ) -> Result<Worker<'s, 'c, H, N>, ServeFault>
         ensures { IfErr result IsAfterBinding }
     {
         let alloc = self.shared.alloc;
@@ -164,49 +191,58 @@ impl<'s, 'c, H, N: Opened> Builder<'s, 'c, H, N> {
         let ready = Vec::with_capacity(alloc, receivers.len())?;
         let shards = usize::from(self.shared.config.top.shards);
         let jobs = WorkerJobs::new(alloc, number, shards, IN_A_ROUND as usize)?;
-        let Equipped {
-            context,
-            arrivals,
-            buffer,
-        } = self.equip(number, part)?;
+        let (context, poll, buffer) = self.equip(number, seat, outbox, parts)?;
         Ok(Worker {
             context,
             jobs,
             receivers,
             ready,
-            poll: arrivals,
+            poll,
             events,
             buffer,
         })
     }
 
     /// Makes all workers, by their numbers.
-    fn workers(&mut self, parts: Vec<Part<N>>) -> Result<Vec<Worker<'s, 'c, H, N>>, ServeFault>
+    fn workers(
+        &mut self,
+        seat: Seat<Global, N>,
+        outboxes: &mut Vec<Outbox<Global>>,
+        parts: Vec<ThreadParts>,
+    ) -> Result<(Vec<Worker<'s, 'c, H, N>>, Seat<Global, N>), ServeFault>
         ensures { IfErr result IsAfterBinding }
     {
-        let mut workers = Vec::with_capacity(self.shared.alloc, parts.len())?;
-        for part in parts {
-            let worker = self.worker(workers.len(), part)?;
+        let alloc = self.shared.alloc;
+        let mut workers = Vec::with_capacity(alloc, parts.len())?;
+        let mut rest = seat;
+        for one in parts {
+            let outbox = next_outbox(alloc, outboxes)?;
+            let (left, seat) = split_off(rest)?;
+            rest = left;
+            let worker = self.worker(workers.len(), seat, outbox, one)?;
             workers.push(worker)?;
         }
-        Ok(workers)
+        Ok((workers, rest))
     }
 
     /// Makes the timer.
-    fn timer(&mut self, part: Part<N>, rests: Rests) -> Result<Timer<'s, 'c, H, N>, ServeFault>
+    fn timer(
+        &mut self,
+        seat: Seat<Global, N>,
+        outbox: Outbox<Global>,
+        parts: ThreadParts,
+        rests: Rests,
+    ) -> Result<Timer<'s, 'c, H, N>, ServeFault>
         ensures { IfErr result IsAfterBinding }
     {
         let shared = self.shared;
         let number = usize::from(shared.config.top.shards);
         let events = Events::with_capacity(shared.alloc, 2)?;
-        let Equipped {
-            context,
-            arrivals,
-            ..
-        } = self.equip(number, part)?;
+        let (context, poll, buffer) = self.equip(number, seat, outbox, parts)?;
+        drop(buffer);
         Ok(Timer {
             context,
-            poll: arrivals,
+            poll,
             events,
             told: [None; 4],
             is_stop_told: false,
@@ -222,34 +258,33 @@ impl<'s, 'c, H, N: Opened> Builder<'s, 'c, H, N> {
 pub fn prepare_threads<'s, 'c, H, N: Opened>(
     sockets: &'s [BoundSocket],
     shared: &'s Shared<'s, 'c, H, N>,
-    seat: Seat<Global, N>,
-    kits: ThreadKits,
-    outboxes: Vec<Outbox<Global>>,
-    rests: Rests,
+    crew: Crew<N>,
 ) -> Result<(ReadyThreads<'s, 'c, H, N>, Seat<Global, N>), ServeFault>
     ensures { IfErr result IsAfterBinding }
 {
-    let line = Vec::with_capacity(shared.alloc, LINE)?;
-    let Parts {
+    let Crew {
+        seat,
+        timer,
+        workers,
+        outboxes,
+        rests,
+    } = crew;
+    let logger = make_logger(shared)?;
+    let mut builder = Builder {
+        sockets,
+        shared,
+        logger,
+    };
+    let mut outboxes = outboxes;
+    let (workers, rest) = builder.workers(seat, &mut outboxes, workers)?;
+    let outbox = next_outbox(shared.alloc, &mut outboxes)?;
+    let (left, seat) = split_off(rest)?;
+    let timer = builder.timer(seat, outbox, timer, rests)?;
+    let logger = builder.logger;
+    let threads = ReadyThreads {
         workers,
         timer,
-        seat,
-    } = parts_of(shared.alloc, seat, kits, outboxes)?;
-    let mut builder = Builder::new(sockets, shared);
-    let workers = builder.workers(workers)?;
-    let timer = builder.timer(timer, rests)?;
-    let Queues { notices, lines } = builder.queues;
-    let logger = Logger {
-        queues: notices,
-        lines,
-        line,
+        logger,
     };
-    Ok((
-        ReadyThreads {
-            workers,
-            timer,
-            logger,
-        },
-        seat,
-    ))
+    Ok((threads, left))
 }

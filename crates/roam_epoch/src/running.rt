@@ -1,25 +1,35 @@
-//! The threads of one configuration run, from their start to their end.
+//! The threads of one epoch run, from their start to their end.
 
 ghost use Rattle.roam_epoch.specs.Closed.{MayGoOn};
 
+use crate::carryover::Carryover;
 use crate::ready_threads::ReadyThreads;
-use crate::room::{RunResult, ThreadRoom};
-use crate::start::{attend, start_all};
-use roam_admin_thread::{AdminThread, Handover, Host, Source};
+use crate::room::EpochRoom;
+use crate::start::{start_all, tell_start};
+use roam_admin_thread::{AdminThread, EpochEnd, Host, Source};
 use roam_hub::Opened;
+use roam_sockets::ServeFault;
 use roam_workers::HubCalls;
 use std::thread;
 use std::thread::Scope;
 
-/// The run of the threads of one configuration until they have ended: the threads, before they start, what this one has
-/// meanwhile, and room for what comes back.
-#[derive(Drop)]
-pub struct Run<'s, 'c, 'a, R, H, N: Opened, S> {
-    pub admin_thread: AdminThread<'s, 'c, R, H, N>,
-    pub threads: ReadyThreads<'s, 'c, H, N>,
-    pub room: ThreadRoom<N>,
-    pub handover: Handover,
-    pub source: &'a mut S,
+/// Tells that the configuration is served, where all threads have started, and answers who asks for something until
+/// they end or another one is to follow.
+fn attend<R: Host, H: HubCalls<N>, N: Opened, S: Source>(
+    have_started: bool,
+    admin_thread: &mut AdminThread<'_, '_, '_, R, H, N, S>,
+    carry: &mut Carryover,
+) -> EpochEnd
+    ensures { MayGoOn N.opening.config result }
+{
+    if !have_started {
+        return EpochEnd::Failed(ServeFault::Thread);
+    }
+    tell_start(admin_thread.rt, admin_thread.shared, carry);
+    match admin_thread.run() {
+        Some(next) => EpochEnd::Follows(next),
+        None => EpochEnd::Over,
+    }
 }
 
 /// Runs the threads in a scope until they have ended. The logger ends with the scope.
@@ -32,29 +42,27 @@ fn run_within<
     H: HubCalls<N> + Sync,
     N: Opened + Send + Sync,
     S: Source,
->(scope: &Scope<'s, E>, run: Run<'w, 'c, '_, R, H, N, S>) -> RunResult<N>
-    ensures { MayGoOn N.opening.config result.end }
+>(
+    scope: &Scope<'s, E>,
+    admin_thread: AdminThread<'w, 'c, '_, R, H, N, S>,
+    threads: ReadyThreads<'w, 'c, H, N>,
+    room: EpochRoom<N>,
+    carry: &mut Carryover,
+) -> (EpochEnd, EpochRoom<N>)
+    ensures { MayGoOn N.opening.config result.0 }
 {
-    let Run {
-        mut admin_thread,
-        threads,
-        room: ThreadRoom {
-            mut handles,
-            mut results,
-        },
-        handover,
-        source,
-    } = run;
+    let mut admin_thread = admin_thread;
+    let mut room = room;
     let rt = admin_thread.rt;
     let shared = admin_thread.shared;
-    let have_started = start_all(scope, rt, shared, threads, &mut handles);
-    let end = attend(have_started, &mut admin_thread, handover, source);
+    let have_started = start_all(scope, rt, shared, threads, &mut room.handles);
+    let end = attend(have_started, &mut admin_thread, carry);
     shared.end_all();
-    results.join_all(rt, handles);
-    admin_thread.keep_at_end(&end, source);
+    room.join_all(rt, shared.alloc);
+    admin_thread.keep_at_end(&end);
     shared.logger.unpark();
-    results.keep_seat(admin_thread.seat);
-    RunResult { end, results }
+    room.keep_seat(admin_thread.seat);
+    (end, room)
 }
 
 /// Runs the threads until they have ended, or until a configuration comes that is to follow. Once all run it is told
@@ -62,16 +70,19 @@ fn run_within<
 /// one can't be started, the others are ended. Where the server ends, the ledgers of sessions are kept as they stand
 /// then.
 pub fn run_threads<'s, 'c, R: Host, H: HubCalls<N> + Sync, N: Opened + Send + Sync, S: Source>(
-    run: Run<'s, 'c, '_, R, H, N, S>,
-) -> RunResult<N>
-    ensures { MayGoOn N.opening.config result.end }
+    admin_thread: AdminThread<'s, 'c, '_, R, H, N, S>,
+    threads: ReadyThreads<'s, 'c, H, N>,
+    room: EpochRoom<N>,
+    carry: &mut Carryover,
+) -> (EpochEnd, EpochRoom<N>)
+    ensures { MayGoOn N.opening.config result.0 }
 {
-    let rt = run.admin_thread.rt;
+    let rt = admin_thread.rt;
     thread::scope(
         thread::scope_env(),
         rt,
-        move |scope| -> RunResult<N>
-            ensures { MayGoOn N.opening.config result.end }
-        { run_within(scope, run) },
+        move |scope| -> (EpochEnd, EpochRoom<N>)
+            ensures { MayGoOn N.opening.config result.0 }
+        { run_within(scope, admin_thread, threads, room, carry) },
     )
 }

@@ -1,17 +1,14 @@
 //! The threads start, and it is told that they have.
 
-ghost use Rattle.roam_epoch.specs.Closed.{MayGoOn};
-
+use crate::carryover::Carryover;
 use crate::ready_threads::ReadyThreads;
 use log::Log;
 use roam_admin::{AdminReply, ReplyStatus};
-use roam_admin_thread::{AdminThread, EpochEnd, Handover, Host, Source};
 use roam_hub::Opened;
 use roam_log::ReloadEnd;
 use roam_logger::{log_notices, serving, tell_or_drop, tell_reload};
-use roam_sockets::{ServeFault, now};
+use roam_sockets::now;
 use roam_workers::{HubCalls, Shared, Worker, WorkerResult, receive_on, tick_on};
-use std::alloc::Global;
 use std::sync::Wait;
 use std::thread::{JoinHandle, Scope, SpawnError};
 use std::time::Clock;
@@ -44,13 +41,12 @@ fn start_workers<
 >(
     scope: &Scope<'s, E>,
     rt: &'s R,
-    alloc: Global,
     workers: Vec<Worker<'w, 'c, H, N>>,
     handles: &mut Vec<JoinHandle<WorkerResult<N>>>,
 ) -> bool {
     let mut have_started = true;
     for worker in workers {
-        let started = scope.spawn(move || receive_on(rt, alloc, worker));
+        let started = scope.spawn(move || receive_on(rt, worker));
         have_started = is_kept(handles, started) && have_started;
     }
     have_started
@@ -83,7 +79,7 @@ pub fn start_all<
         shared.logger,
         logger,
     )));
-    let work = start_workers(scope, rt, shared.alloc, workers, handles);
+    let work = start_workers(scope, rt, workers, handles);
     let ticks = is_kept(handles, scope.spawn(move || tick_on(rt, timer)));
     ticks && work && logs
 }
@@ -115,36 +111,14 @@ fn tell_reply<R: Wait + Clock + Log, H, N: Opened>(
 
 /// Tells that a configuration is served, and how the reload went where one was asked for, answers who did, and closes
 /// what the one of before had.
-fn tell_start<R: Wait + Clock + Log, H, N: Opened>(
+pub fn tell_start<R: Wait + Clock + Log, H, N: Opened>(
     rt: &R,
     shared: &Shared<'_, '_, H, N>,
-    handover: Handover,
+    carry: &mut Carryover,
 ) {
-    let (reply, before, is_awaited) = handover.into_parts();
     tell_or_drop(rt, shared.config, serving(shared.config));
-    drop(before);
-    match reply {
-        Some(reply) => tell_reply(rt, shared, reply, is_awaited),
-        None => {}
-    }
-}
-
-/// Tells that the configuration is served, where all threads have started, and answers who asks for something until
-/// they end or another one is to follow.
-pub fn attend<R: Host, H: HubCalls<N>, N: Opened, S: Source>(
-    have_started: bool,
-    admin_thread: &mut AdminThread<'_, '_, R, H, N>,
-    handover: Handover,
-    source: &mut S,
-) -> EpochEnd
-    ensures { MayGoOn N.opening.config result }
-{
-    if !have_started {
-        return EpochEnd::Failed(ServeFault::Thread, handover);
-    }
-    tell_start(admin_thread.rt, admin_thread.shared, handover);
-    match admin_thread.run(source) {
-        Some(next) => EpochEnd::Follows(next),
-        None => EpochEnd::Over,
+    drop(carry.before.take());
+    if let Some(reply) = carry.reply.take() {
+        tell_reply(rt, shared, reply, carry.is_awaited);
     }
 }

@@ -24,12 +24,12 @@ fn start_metrics<'s, E, R: Host>(
     scope: &Scope<'s, E>,
     rt: &'s R,
     alloc: Global,
-    behind: Lasting<'s>,
+    lasting: Lasting<'s>,
 ) -> bool {
-    let Some(listener) = behind.listener else {
+    let Some(listener) = lasting.listener else {
         return true;
     };
-    let admin = behind.admin;
+    let admin = lasting.admin;
     let asker = AdminService::new(rt, admin, AdminSocket::Metrics);
     scope
         .spawn(move || answer_on(alloc, asker, listener))
@@ -41,12 +41,12 @@ fn start_control<'s, E, R: Host>(
     scope: &Scope<'s, E>,
     rt: &'s R,
     alloc: Global,
-    behind: Lasting<'s>,
+    lasting: Lasting<'s>,
 ) -> bool {
-    let Some(socket) = behind.control else {
+    let Some(socket) = lasting.control else {
         return true;
     };
-    let admin = behind.admin;
+    let admin = lasting.admin;
     let asker = AdminService::new(rt, admin, AdminSocket::Control);
     let listener = &socket.listener;
     scope
@@ -59,16 +59,16 @@ pub fn start_lasting<'s, E, R: Host>(
     scope: &Scope<'s, E>,
     rt: &'s R,
     alloc: Global,
-    behind: Lasting<'s>,
+    lasting: Lasting<'s>,
 ) -> bool {
     let Lasting {
         admin,
         reclaimer,
         ..
-    } = behind;
+    } = lasting;
     let frees = scope
         .spawn(move || reclaimer.free_on(rt, &admin.is_over))
         .is_ok();
-    let answers = start_metrics(scope, rt, alloc, behind);
-    start_control(scope, rt, alloc, behind) && answers && frees
+    let answers = start_metrics(scope, rt, alloc, lasting);
+    start_control(scope, rt, alloc, lasting) && answers && frees
 }

@@ -201,7 +201,7 @@ impl<H: HubCalls<N>, N: Opened> WorkerContext<'_, '_, H, N> {
         self.counting.came(turn);
         match self.answer_or_lose(rt, job) {
             Ok((answered, is_lost)) => {
-                self.shared.rest.wake();
+                self.shared.wake_timer();
                 let given = given_as(turn, is_lost);
                 self.counting
                     .gave(config, given, &answered.happening, self.now);

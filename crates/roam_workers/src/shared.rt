@@ -27,7 +27,7 @@ pub struct Shared<'s, 'c, H, N: Opened> {
     pub logger: &'s Parker,
     /// The wakers that end the wait of the timer, the first, and of each worker.
     pub wakers: &'s [Waker],
-    pub rest: &'s TimerRest<'s>,
+    pub rest: &'s TimerRest,
     /// The queues in which each worker finds the jobs that others received for its shard, by their numbers.
     pub queues: &'s [LockedQueue<N>],
     pub losses: &'s SharedLosses,
@@ -53,6 +53,11 @@ impl<H, N: Opened> Shared<'_, '_, H, N> {
     /// Returns whether all are to end.
     pub fn is_over(&self) -> bool {
         self.stop.load(Ordering::SeqCst)
+    }
+
+    /// Wakes the timer where it rests.
+    pub fn wake_timer(&self) {
+        self.rest.wake(self.wakers.first());
     }
 
     /// Has all end: whoever asks first wakes them. A worker that can't be woken looks by itself, soon enough.

@@ -153,7 +153,6 @@ fn look_after_faults<R: Clock, H: HubCalls<N>, N: Opened>(
 /// Takes what arrived at one socket, and sends what that gives: why the worker ends with it, if it does.
 fn receive_portion<R: Wait + Clock, H: HubCalls<N>, N: Opened>(
     rt: &R,
-    alloc: Global,
     context: &mut WorkerContext<'_, '_, H, N>,
     jobs: &mut WorkerJobs<N>,
     receiver: &mut Receiver<'_>,
@@ -175,7 +174,6 @@ fn receive_portion<R: Wait + Clock, H: HubCalls<N>, N: Opened>(
 #[tactic(auto, using(crate::proofs::WorkLemmas::worked_none))]
 fn receive_at<R: Wait + Clock, H: HubCalls<N>, N: Opened>(
     rt: &R,
-    alloc: Global,
     worker: &mut Worker<'_, '_, H, N>,
     place: usize,
 ) -> Option<ExitReason>
@@ -195,7 +193,6 @@ fn receive_at<R: Wait + Clock, H: HubCalls<N>, N: Opened>(
     worker.context.look_at_clock(rt);
     receive_portion(
         rt,
-        alloc,
         &mut worker.context,
         &mut worker.jobs,
         receiver,
@@ -206,7 +203,6 @@ fn receive_at<R: Wait + Clock, H: HubCalls<N>, N: Opened>(
 /// Takes what arrived at the sockets that are marked: why the worker ends with it, if it does.
 fn receive_all<R: Wait + Clock, H: HubCalls<N>, N: Opened>(
     rt: &R,
-    alloc: Global,
     worker: &mut Worker<'_, '_, H, N>,
 ) -> Option<ExitReason>
     ensures { HasWorked N.opening
@@ -214,7 +210,7 @@ fn receive_all<R: Wait + Clock, H: HubCalls<N>, N: Opened>(
         (at_work worker.new.context.seat worker.new.context.counting worker.new.context.outgoing) }
 {
     for place in 0..worker.ready.len() {
-        let ending = receive_at(rt, alloc, worker, place);
+        let ending = receive_at(rt, worker, place);
         if ending.is_some() {
             return ending;
         }
@@ -225,7 +221,6 @@ fn receive_all<R: Wait + Clock, H: HubCalls<N>, N: Opened>(
 /// Does one round over the sockets. Returns why the worker ends with it, if it does.
 fn round<R: Wait + Clock, H: HubCalls<N>, N: Opened>(
     rt: &R,
-    alloc: Global,
     worker: &mut Worker<'_, '_, H, N>,
 ) -> Option<ExitReason>
     ensures { HasWorked N.opening
@@ -238,7 +233,7 @@ fn round<R: Wait + Clock, H: HubCalls<N>, N: Opened>(
     }
     worker.context.look_at_clock(rt);
     worker.context.take_queued(rt, &mut worker.jobs, true);
-    let ending = receive_all(rt, alloc, worker);
+    let ending = receive_all(rt, worker);
     worker.context.tick_own(rt, worker.jobs.number);
     keep_ready(worker.receivers.as_slice(), &mut worker.ready);
     worker.context.wake_logger(LINES_WITHIN);
@@ -282,7 +277,6 @@ impl<H: HubCalls<N>, N: Opened> Worker<'_, '_, H, N> {
 /// Receives from sockets until the server ends.
 pub fn receive_on<R: Wait + Clock, H: HubCalls<N>, N: Opened>(
     rt: &R,
-    alloc: Global,
     mut worker: Worker<'_, '_, H, N>,
 ) -> WorkerResult<N>
     ensures { HasWorkedTo N.opening
@@ -290,7 +284,7 @@ pub fn receive_on<R: Wait + Clock, H: HubCalls<N>, N: Opened>(
         result.seat result.outbox }
 {
     for _ in rt.forever() {
-        if let Some(ending) = round(rt, alloc, &mut worker) {
+        if let Some(ending) = round(rt, &mut worker) {
             end_jobs(rt, &mut worker);
             return worker.leave(ending);
         }

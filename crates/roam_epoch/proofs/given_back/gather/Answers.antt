@@ -16,9 +16,9 @@ loop-end-init g c =
     record {
       given_up = none-gave-up;
       datagrams = rw c.none-datagrams.ensures (ap (λ ends. all_of (datagrams_of ends)) iter.0);
-      jobs = c.args.results.none_yet;
+      jobs = c.args.room.none_yet;
       all = iter.0;
-      left = iter.1 ∙ c.args.results.ends.ok.0 ∙ ap length (sym iter.0);
+      left = iter.1 ∙ c.args.room.ends.ok.0 ∙ ap length (sym iter.0);
     }
 
 pub loop-end-preserved : goal.loop-end-preserved
@@ -51,7 +51,7 @@ pub returns-clause-gave_up : goal.returns-clause-gave_up
 returns-clause-gave_up g c =
     let inv = c.loop-end.invariant in
     let none : length (into_iter_items c.loop-end.end-iterator) ≡ 0 = sym inv.left ∙ c.in-None.ensures.steps.0 in
-    let all_ends = c.args.results.ends.items in
+    let all_ends = c.args.room.ends.items in
     let all = all-seen c.loop-end.yielded (into_iter_items c.loop-end.end-iterator) all_ends none inv.all in
     subst (λ ends. IsTrue c.loop-end.ended.has_given_up ↔ Contains (endings_of ends) ending.GaveUp) all inv.given_up
 
@@ -59,6 +59,6 @@ pub returns-clause-jobs : goal.returns-clause-jobs
 returns-clause-jobs g c =
     let inv = c.loop-end.invariant in
     let none : length (into_iter_items c.loop-end.end-iterator) ≡ 0 = sym inv.left ∙ c.in-None.ensures.steps.0 in
-    let all_ends = c.args.results.ends.items in
+    let all_ends = c.args.room.ends.items in
     let all = all-seen c.loop-end.yielded (into_iter_items c.loop-end.end-iterator) all_ends none inv.all in
     inv.jobs ∙ ap (λ ends. job_counts_of ends) all

@@ -11,8 +11,8 @@ abbrev pub invariant-loop-end : goal.invariant-loop-end
 invariant-loop-end g l = record {
   given_up : IsTrue l.ended.has_given_up ↔ Contains (endings_of l.yielded) ending.GaveUp;
   datagrams : with_all l.ended.datagrams.counts (datagrams_of (into_iter_items l.end-iterator))
-      ≡ all_of (datagrams_of l.fn.results.ends.items);
+      ≡ all_of (datagrams_of l.fn.room.ends.items);
   jobs : l.ended.jobs.items ≡ job_counts_of l.yielded;
-  all : l.yielded ++ into_iter_items l.end-iterator ≡ l.fn.results.ends.items;
+  all : l.yielded ++ into_iter_items l.end-iterator ≡ l.fn.room.ends.items;
   left : into_iter_len l.end-iterator ≡ length (into_iter_items l.end-iterator);
 }
