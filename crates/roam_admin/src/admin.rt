@@ -34,7 +34,7 @@ pub struct Admin {
     pub is_over: AtomicBool,
 }
 
-/// The seconds since 1970, where the system's clock tells them.
+/// Returns the seconds since 1970, where the system's clock tells them.
 fn seconds_since_1970<R: Clock>(rt: &R) -> Option<u64> {
     match rt.since_1970() {
         Ok(time) => Some(time.as_secs()),
@@ -43,7 +43,7 @@ fn seconds_since_1970<R: Clock>(rt: &R) -> Option<u64> {
 }
 
 impl Admin {
-    /// Nobody asks yet. There are so many shards.
+    /// Makes queues in which nobody asks yet, for so many shards.
     pub fn new<R: Clock>(
         rt: &R,
         alloc: Global,
@@ -65,7 +65,7 @@ impl Admin {
         })
     }
 
-    /// A reload went so, at this moment, in milliseconds since the start.
+    /// Counts that a reload went so, at this moment, in milliseconds since the start.
     pub fn count_reload(&self, status: ReplyStatus, now: u64) {
         if status == ReplyStatus::Done {
             self.served.add(now);
@@ -86,7 +86,7 @@ impl Admin {
         }
     }
 
-    /// The server ends: who waits is told.
+    /// Notes that the server ends, and wakes those who wait in the queues.
     pub fn close(&self) {
         self.is_over.store(true, Ordering::SeqCst);
         self.metrics.wake();

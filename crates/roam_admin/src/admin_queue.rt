@@ -55,7 +55,7 @@ fn take_reply<Q: Request>(state: &mut QueueState<Q>) -> Option<Result<AdminReply
 }
 
 impl<Q: Request> AdminQueue<Q> {
-    /// Nothing is asked for.
+    /// Makes a queue in which nothing is asked for.
     pub fn new() -> AdminQueue<Q> {
         AdminQueue {
             state: Mutex::new(QueueState::Empty),
@@ -121,7 +121,7 @@ impl<Q: Request> AdminQueue<Q> {
         Some(asked.request)
     }
 
-    /// Answers.
+    /// Answers the request that waits there, and wakes whoever asked.
     pub fn answer<R: Wait>(&self, rt: &R, reply: AdminReply) {
         self.put(rt, QueueState::Answered(reply));
         self.waiting.unpark();

@@ -26,7 +26,7 @@ pub struct AdminReply {
     pub handed: Option<Handed>,
 }
 
-/// An answer that has no stored steps.
+/// Makes an answer that has no stored steps.
 pub fn plain_reply(status: ReplyStatus, body: Vec<u8>) -> AdminReply {
     AdminReply {
         status,
@@ -35,7 +35,7 @@ pub fn plain_reply(status: ReplyStatus, body: Vec<u8>) -> AdminReply {
     }
 }
 
-/// The answer that it was done.
+/// Makes the answer that it was done.
 pub fn done(body: Vec<u8>) -> AdminReply {
     plain_reply(ReplyStatus::Done, body)
 }

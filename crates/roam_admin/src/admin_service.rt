@@ -79,7 +79,7 @@ fn asked_at(socket: AdminSocket, path: &str) -> Option<Resource> {
     }
 }
 
-/// The methods by which it can be asked for.
+/// Returns the methods by which it can be asked for.
 fn methods(socket: AdminSocket, asked: Resource) -> HeaderValue {
     match (socket, asked) {
         (_, Resource::Stop | Resource::Reload) => HeaderValue::from_static("POST"),
@@ -97,13 +97,13 @@ fn is_right(socket: AdminSocket, asked: Resource, method: &Method) -> bool {
     }
 }
 
-/// The shard that a query names: `shard=N`.
+/// Reads the shard that a query names: `shard=N`.
 fn shard_of(query: Option<&str>) -> Option<u16> {
     let number = decimal(query?.strip_prefix("shard=")?, 0, 65535)?;
     u16::try_from(number).ok()
 }
 
-/// The request that a path and its query give.
+/// Returns the request that a path and its query give.
 fn request_of(asked: Resource, query: Option<&str>) -> Option<AdminRequest> {
     match asked {
         Resource::Metrics => Some(AdminRequest::Metrics),
@@ -132,7 +132,7 @@ fn word_of(request: AdminRequest) -> &'static str {
     }
 }
 
-/// In which form the body of an answer is.
+/// Returns the form in which the body of an answer is.
 fn kind_of(asked: Resource) -> HeaderValue {
     match asked {
         Resource::Metrics => HeaderValue::from_static("text/plain; version=0.0.4"),
@@ -141,7 +141,7 @@ fn kind_of(asked: Resource) -> HeaderValue {
     }
 }
 
-/// The status of an answer (RFC 9110, section 15).
+/// Returns the status of an answer (RFC 9110, section 15).
 fn status_of(status: ReplyStatus) -> StatusCode {
     match status {
         ReplyStatus::Done => StatusCode::OK,
@@ -175,7 +175,7 @@ impl<'d, R> AdminService<'d, R> {
         }
     }
 
-    /// The stored steps that the answer has which was given since this was asked last.
+    /// Takes the stored steps of the answer that was given since this was asked last.
     pub fn take_handed(&mut self) -> Option<Handed> {
         self.handed.take()
     }

@@ -121,7 +121,7 @@ impl<R: Wait, H: HubCalls<N>, N: Opened, S> AdminThread<'_, '_, '_, R, H, N, S> 
         }
     }
 
-    /// The peers that have other tables in a configuration that follows.
+    /// Lists the peers that have other tables in a configuration that follows.
     fn changed_of(&self, next: &Config) -> Result<Vec<u16>, AllocError>
         ensures { IfOk result (λ changed.
             AreChanged N.opening.config.peers (shown next.now).peers changed.items) }

@@ -70,7 +70,7 @@ impl<R: Wait, H: HubCalls<N>, N: Opened, S> AdminThread<'_, '_, '_, R, H, N, S> 
         Ok(())
     }
 
-    /// The ledgers of all realms that are here, as a file keeps them.
+    /// Writes the session tables of all realms that aren't gone, as a file keeps them.
     pub fn ledgers(&self) -> Result<Vec<u8>, AllocError>
         ensures { IfOk result (λ octets. (items : List SavedItem) × (octets.items ≡ ledgers_text items)) }
     {

@@ -43,7 +43,7 @@ pub struct First {
     ghost one_for_each: { count_of parts.blanks ≡ configured.config.top.shards },
 }
 
-/// The socket at which the counts are asked for, where there is one. Tells where it can't be had.
+/// Returns the socket at which the counts are asked for, where there is one. Tells where it can't be had.
 fn listener<R: Log>(rt: &R, config: &Config, watch: Option<Watch<'_>>) -> Option<TcpListener> {
     let Some(
         Watch {
