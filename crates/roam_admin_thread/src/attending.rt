@@ -13,21 +13,19 @@ use crate::overview::Overview;
 use crate::source::{Following, Source};
 use roam_admin::{AdminReply, AdminRequest, FileOrder, ReplyStatus, done, grace, plain_reply};
 use roam_counters::Process;
-use roam_history::{Opened, Seat};
+use roam_history::{HubCalls, Opened, Seat};
 use roam_log::ReloadEnd;
 use roam_logger::tell_reload;
 use roam_metrics::{StatusForm, page, status};
-use roam_outgoing::ThreadCounts;
-use roam_sockets::{BoundSocket, now};
-use roam_workers::{HubCalls, Shared};
+use roam_sockets::now;
+use roam_workers::Epoch;
 use std::alloc::{AllocError, Global};
 
 /// The means of the server's own thread while the others serve.
 #[derive(Drop)]
 pub struct AdminThread<'s, 'c, 'a, R, H, N: Opened, S> {
     pub rt: &'s R,
-    pub shared: &'s Shared<'s, 'c, H, N>,
-    pub sockets: &'s [BoundSocket],
+    pub epoch: &'s Epoch<'s, 'c, H, N>,
     /// Through which the stored steps of a shard are let go of. The audit counts that.
     pub seat: Seat<Global, N>,
     /// In milliseconds since the server's start.
@@ -46,15 +44,14 @@ impl<'s, 'c, 'a, R, H, N: Opened, S> AdminThread<'s, 'c, 'a, R, H, N, S> {
     /// Returns what it has at first.
     pub fn new(
         rt: &'s R,
-        shared: &'s Shared<'s, 'c, H, N>,
+        epoch: &'s Epoch<'s, 'c, H, N>,
         configured: &'s Configured,
         seat: Seat<Global, N>,
         source: &'a mut S,
     ) -> AdminThread<'s, 'c, 'a, R, H, N, S> {
         AdminThread {
             rt,
-            shared,
-            sockets: configured.sockets.as_slice(),
+            epoch,
             seat,
             now: 0,
             state: configured.manner.state.as_ref(),
@@ -77,21 +74,13 @@ pub fn stopping(alloc: Global) -> AdminReply {
     plain_reply(ReplyStatus::Begun, body)
 }
 
-impl<R: Host, H: HubCalls<N>, N: Opened, S: Source> AdminThread<'_, '_, '_, R, H, N, S> {
-    /// Returns the counts of this thread, which are the timer's too.
-    fn counts(&self) -> Option<ThreadCounts<'_>> {
-        let shared = self.shared;
-        shared
-            .counters?
-            .of_thread(usize::from(shared.config.top.shards))
-    }
-
+impl<R: Host, H: HubCalls<Global, N>, N: Opened, S: Source> AdminThread<'_, '_, '_, R, H, N, S> {
     /// Returns what was counted, and how all stands; none where nothing is counted.
     fn look(&self) -> Result<Option<Overview<'_>>, AllocError> {
-        let shared = self.shared;
-        match shared.counters {
+        let epoch = self.epoch;
+        match epoch.counters {
             Some(counters) => Ok(Some(Overview::look(
-                self.rt, shared, &self.seat, counters, self.now,
+                self.rt, epoch, &self.seat, counters, self.now,
             )?)),
             None => Ok(None),
         }
@@ -99,46 +88,40 @@ impl<R: Host, H: HubCalls<N>, N: Opened, S: Source> AdminThread<'_, '_, '_, R, H
 
     /// Answers with the counts, as the page of metrics.
     fn metrics(&self) -> Result<AdminReply, AllocError> {
-        let about = self.shared.admin.about(self.now);
+        let about = self.epoch.admin.about(self.now);
         match self.look()? {
             Some(standing) => {
-                let page = page(self.shared.alloc, self.shared.config, &standing, &about)?;
+                let page = page(self.epoch.alloc, self.epoch.config, &standing, &about)?;
                 Ok(done(page))
             }
-            None => Ok(bare(self.shared.alloc, ReplyStatus::Unknown)),
+            None => Ok(bare(self.epoch.alloc, ReplyStatus::Unknown)),
         }
     }
 
     /// Returns how the server stands.
     fn status(&self, form: StatusForm) -> Result<AdminReply, AllocError> {
         let Some(standing) = self.look()? else {
-            return Ok(bare(self.shared.alloc, ReplyStatus::Unknown));
+            return Ok(bare(self.epoch.alloc, ReplyStatus::Unknown));
         };
-        let about = self.shared.admin.about(self.now);
-        let body = status(
-            self.shared.alloc,
-            self.shared.config,
-            &standing,
-            &about,
-            form,
-        )?;
+        let about = self.epoch.admin.about(self.now);
+        let body = status(self.epoch.alloc, self.epoch.config, &standing, &about, form)?;
         Ok(done(body))
     }
 
     /// Has the server take no request any more, and end when those that wait had time to be answered.
     fn stop(&self) -> AdminReply {
-        let shared = self.shared;
-        shared.stopping.ask();
-        let end = self.now.saturating_add(grace(shared.config));
-        if shared.stopping.end_at(end) {
-            shared.wake_timer();
+        let epoch = self.epoch;
+        epoch.stopping.ask();
+        let end = self.now.saturating_add(grace(epoch.config));
+        if epoch.stopping.end_at(end) {
+            epoch.wake_timer();
         }
-        stopping(shared.alloc)
+        stopping(epoch.alloc)
     }
 
     /// Counts that so many stored steps of a shard were let go of.
     pub(crate) fn count_gone(&self, shard: u16, steps: usize) {
-        if let Some(counts) = self.counts() {
+        if let Some(counts) = self.epoch.timer_counts() {
             counts.history_is(shard, 0);
             counts.process(Process::TimeLetGo, 1);
             counts.process(Process::StepLetGo, steps as u64);
@@ -147,11 +130,11 @@ impl<R: Host, H: HubCalls<N>, N: Opened, S: Source> AdminThread<'_, '_, '_, R, H
 
     /// Lets go of all stored steps, so that they needn't be freed while nobody serves.
     fn let_go_all(&mut self) {
-        for shard in 0..self.shared.config.top.shards {
-            if let Ok(steps) = self.shared.hub.let_go(self.rt, &mut self.seat, shard) {
+        for shard in 0..self.epoch.config.top.shards {
+            if let Ok(steps) = self.epoch.hub.let_go(self.rt, &mut self.seat, shard) {
                 if !steps.is_empty() {
                     self.count_gone(shard, steps.len());
-                    self.shared.reclaimer.hand_over(self.rt, steps);
+                    self.epoch.reclaimer.hand_over(self.rt, steps);
                 }
             }
         }
@@ -161,7 +144,7 @@ impl<R: Host, H: HubCalls<N>, N: Opened, S: Source> AdminThread<'_, '_, '_, R, H
     fn agreed_of(&mut self, is_agreed: bool) -> Result<Following, AdminReply>
         ensures { IfOk result (λ following. MayFollow N.opening.config (shown following.config)) }
     {
-        let following = following_of(self.shared, self.source)?;
+        let following = following_of(self.epoch, self.source)?;
         if is_agreed {
             return Ok(following);
         }
@@ -178,7 +161,7 @@ impl<R: Host, H: HubCalls<N>, N: Opened, S: Source> AdminThread<'_, '_, '_, R, H
         ensures agreed { IfOk result (λ next. next.is_agreed ≡ is_agreed) }
     {
         let following = self.agreed_of(is_agreed)?;
-        let mut next = prepare_next(self.rt, self.shared, self.sockets, self.source, following)?;
+        let mut next = prepare_next(self.rt, self.epoch, self.source, following)?;
         next.is_agreed = is_agreed;
         Ok(next)
     }
@@ -195,7 +178,7 @@ impl<R: Host, H: HubCalls<N>, N: Opened, S: Source> AdminThread<'_, '_, '_, R, H
             }
             Err(reply) => {
                 tell_reload(self.rt, ReloadEnd::Declined, reply.body.as_slice());
-                self.shared.admin.count_reload(reply.status, self.now);
+                self.epoch.admin.count_reload(reply.status, self.now);
                 Err(reply)
             }
         }
@@ -207,7 +190,7 @@ impl<R: Host, H: HubCalls<N>, N: Opened, S: Source> AdminThread<'_, '_, '_, R, H
             MayFollow N.opening.config (shown next.configured.config)) }
         ensures agreed { IfSome result (λ next. request ≡ AdminRequest.Reload next.is_agreed) }
     {
-        self.now = now(self.rt, self.shared.start, self.now);
+        self.now = now(self.rt, self.epoch.start, self.now);
         let reply = match request {
             AdminRequest::Metrics => self.metrics(),
             AdminRequest::Status(form) => self.status(form),
@@ -218,20 +201,20 @@ impl<R: Host, H: HubCalls<N>, N: Opened, S: Source> AdminThread<'_, '_, '_, R, H
                 Err(reply) => Ok(reply),
             },
         };
-        let reply = reply.unwrap_or(bare(self.shared.alloc, ReplyStatus::Unavailable));
-        self.shared.admin.control.answer(self.rt, reply);
+        let reply = reply.unwrap_or(bare(self.epoch.alloc, ReplyStatus::Unavailable));
+        self.epoch.admin.control.answer(self.rt, reply);
         None
     }
 
     /// Answers who asks for the counts at the endpoint of metrics.
     fn answer_metrics(&mut self) {
-        if self.shared.admin.metrics.request(self.rt).is_none() {
+        if self.epoch.admin.metrics.request(self.rt).is_none() {
             return;
         }
-        self.now = now(self.rt, self.shared.start, self.now);
+        self.now = now(self.rt, self.epoch.start, self.now);
         let reply = self.metrics();
-        let reply = reply.unwrap_or(bare(self.shared.alloc, ReplyStatus::Unavailable));
-        self.shared.admin.metrics.answer(self.rt, reply);
+        let reply = reply.unwrap_or(bare(self.epoch.alloc, ReplyStatus::Unavailable));
+        self.epoch.admin.metrics.answer(self.rt, reply);
     }
 
     /// Answers who asks in either queue, unless a configuration comes by it that is to follow.
@@ -240,7 +223,7 @@ impl<R: Host, H: HubCalls<N>, N: Opened, S: Source> AdminThread<'_, '_, '_, R, H
             MayFollow N.opening.config (shown next.configured.config)) }
     {
         self.answer_metrics();
-        let request = self.shared.admin.control.request(self.rt)?;
+        let request = self.epoch.admin.control.request(self.rt)?;
         self.answer(request)
     }
 
@@ -251,7 +234,7 @@ impl<R: Host, H: HubCalls<N>, N: Opened, S: Source> AdminThread<'_, '_, '_, R, H
     {
         let rt = self.rt;
         for _ in rt.forever() {
-            if self.shared.is_over() {
+            if self.epoch.is_over() {
                 self.tell_dropped_at_end();
                 return None;
             }

@@ -9,13 +9,11 @@ use crate::dealing::register;
 use mio::{Events, Waker};
 use roam_conf::ExchangeLines;
 use roam_history::Blanks;
-use roam_log::Exchange;
-use roam_logger::{Exchanges, Notice, Notices, queue_of_lines, queue_of_notices};
+use roam_logger::{Exchanges, Logger, Notices, queue_of_lines, queue_of_notices};
 use roam_outgoing::ROOM_EVENTS;
 use roam_port::Outbox;
 use roam_sockets::{BoundSocket, Polls, RECEIVED, ServeFault, make_polls, make_waker};
 use roam_workers::Rests;
-use rtrb::Consumer;
 use std::alloc::Global;
 use std::net::Net;
 
@@ -24,11 +22,7 @@ use std::net::Net;
 pub struct ThreadParts {
     pub polls: Polls,
     pub notices: Notices,
-    /// The logger's end of its queue of notices.
-    pub queue: Consumer<Notice>,
     pub exchanges: Exchanges,
-    /// The logger's end of its queue of lines, where lines are told.
-    pub lines: Option<Consumer<Exchange>>,
     /// For the sockets that have room again.
     pub room_events: Events<Global>,
     /// Room for a datagram; none for the timer.
@@ -41,6 +35,8 @@ pub struct EpochParts {
     pub wakers: Vec<Waker>,
     pub timer: ThreadParts,
     pub workers: Vec<ThreadParts>,
+    /// The logger, with its ends of the queues of all of them.
+    pub logger: Logger,
     /// The home servers that do not answer, as it was told: of none was told yet.
     pub rests: Rests,
     pub blanks: Blanks<Global>,
@@ -49,27 +45,40 @@ pub struct EpochParts {
 // By hand, so that a proof sees one call wherever it ends, and not each of its parts.
 impl Drop for EpochParts {
     fn drop(self) {
-        drop(self.into_parts());
+        let Self {
+            wakers,
+            timer,
+            workers,
+            logger,
+            rests,
+            blanks,
+        } = self;
+        drop(wakers);
+        drop(timer);
+        drop(workers);
+        drop(logger);
+        drop(rests);
+        drop(blanks);
     }
 }
 
-/// Returns what one thread is made of.
+/// Returns what one thread is made of, and gives the logger its ends of that one's queues.
 fn make_parts(
     alloc: Global,
     polls: Polls,
     told: ExchangeLines,
     room: usize,
+    logger: &mut Logger,
 ) -> Result<ThreadParts, ServeFault>
     ensures { IfErr result IsAfterBinding }
 {
     let (notices, queue) = queue_of_notices(alloc)?;
     let (exchanges, lines) = queue_of_lines(alloc, told)?;
+    logger.add_queues(queue, lines)?;
     Ok(ThreadParts {
         polls,
         notices,
-        queue,
         exchanges,
-        lines,
         room_events: Events::with_capacity(alloc, ROOM_EVENTS)?,
         buffer: vec![in alloc; 0u8; room]?,
     })
@@ -108,25 +117,13 @@ fn make_wakers(
     Ok(wakers)
 }
 
-/// Returns what the worker of a number is made of, which waits for what comes to the sockets that it hears.
-fn make_worker_parts(
-    alloc: Global,
-    polls: Polls,
-    sockets: &[BoundSocket],
-    worker: usize,
-    told: ExchangeLines,
-) -> Result<ThreadParts, ServeFault>
-    ensures { IfErr result IsAfterBinding }
-{
-    register(&polls.arrivals, sockets, worker)?;
-    make_parts(alloc, polls, told, RECEIVED)
-}
-
-/// Returns what the workers are made of that wait with these.
+/// Returns what the workers are made of that wait with these, by their numbers: each for what comes to the sockets that
+/// it hears.
 fn make_workers(
     alloc: Global,
     polls: Vec<Polls>,
     configured: &Configured,
+    logger: &mut Logger,
 ) -> Result<Vec<ThreadParts>, ServeFault>
     ensures { IfErr result IsAfterBinding }
 {
@@ -134,27 +131,29 @@ fn make_workers(
     let told = configured.manner.told_exchanges;
     let mut workers = Vec::with_capacity(alloc, polls.len())?;
     for one in polls {
-        let parts = make_worker_parts(alloc, one, sockets, workers.len(), told)?;
+        register(&one.arrivals, sockets, workers.len())?;
+        let parts = make_parts(alloc, one, told, RECEIVED, logger)?;
         workers.push(parts)?;
     }
     Ok(workers)
 }
 
 /// Returns what the threads of a configuration are made of: the wakers, the timer's parts, and those of a worker for
-/// each shard, which waits for what comes to the sockets that it hears. The server wants so many descriptors.
+/// each shard. The server wants so many descriptors.
 fn make_threads<R: Net>(
     rt: &R,
     alloc: Global,
     configured: &Configured,
     wanted: u32,
+    logger: &mut Logger,
 ) -> Result<(Vec<Waker>, ThreadParts, Vec<ThreadParts>), ServeFault>
     ensures { IfErr result IsAfterBinding }
 {
     let timer = make_polls(rt, wanted)?;
     let polls = worker_polls(rt, alloc, configured.config.top.shards, wanted)?;
     let wakers = make_wakers(alloc, &timer, polls.as_slice(), wanted)?;
-    let workers = make_workers(alloc, polls, configured)?;
-    let timer = make_parts(alloc, timer, configured.manner.told_exchanges, 0)?;
+    let workers = make_workers(alloc, polls, configured, logger)?;
+    let timer = make_parts(alloc, timer, configured.manner.told_exchanges, 0, logger)?;
     Ok((wakers, timer, workers))
 }
 
@@ -171,40 +170,16 @@ impl EpochParts {
     {
         let blanks = Blanks::new(alloc, configured.config.top.shards)?;
         let rests = Rests::new(alloc, &configured.config)?;
-        let (wakers, timer, workers) = make_threads(rt, alloc, configured, wanted)?;
+        let mut logger = Logger::new(alloc, configured.manner.stations)?;
+        let (wakers, timer, workers) = make_threads(rt, alloc, configured, wanted, &mut logger)?;
         Ok(EpochParts {
             wakers,
             timer,
             workers,
+            logger,
             rests,
             blanks,
         })
-    }
-
-    /// Takes them apart.
-    pub fn into_parts(
-        self,
-    ) -> (
-        Vec<Waker>,
-        ThreadParts,
-        Vec<ThreadParts>,
-        Rests,
-        Blanks<Global>,
-    )
-        ensures wakers { result.0 ≡ self.wakers }
-        ensures timer { result.1 ≡ self.timer }
-        ensures workers { result.2 ≡ self.workers }
-        ensures rests { result.3 ≡ self.rests }
-        ensures blanks { result.4 ≡ self.blanks }
-    {
-        let Self {
-            wakers,
-            timer,
-            workers,
-            rests,
-            blanks,
-        } = self;
-        (wakers, timer, workers, rests, blanks)
     }
 }
 

@@ -6,10 +6,10 @@ use crate::attending::AdminThread;
 use crate::epoch_end::EpochEnd;
 use crate::source::{Keeping, Source};
 use log::Log;
-use roam_history::Opened;
+use roam_history::{HubCalls, Opened};
 use roam_logger::tell_not_kept;
 use roam_sockets::now;
-use roam_workers::HubCalls;
+use std::alloc::Global;
 use std::sync::Wait;
 use std::thread;
 use std::time::{Clock, Duration};
@@ -85,7 +85,7 @@ impl Dues {
     }
 }
 
-impl<R: Wait + Clock + Log, H: HubCalls<N>, N: Opened, S: Source> AdminThread<
+impl<R: Wait + Clock + Log, H: HubCalls<Global, N>, N: Opened, S: Source> AdminThread<
     '_,
     '_,
     '_,
@@ -143,7 +143,7 @@ impl<R: Wait + Clock + Log, H: HubCalls<N>, N: Opened, S: Source> AdminThread<
         let Some(file) = self.state else {
             return;
         };
-        self.now = now(self.rt, self.shared.start, self.now);
+        self.now = now(self.rt, self.epoch.start, self.now);
         if self.dues.is_keeping_due(self.now, file.every) {
             self.keep_ledgers();
         }
@@ -152,7 +152,7 @@ impl<R: Wait + Clock + Log, H: HubCalls<N>, N: Opened, S: Source> AdminThread<
     /// Waits until nothing is being written, or until this moment, in milliseconds since the server's start.
     fn wait_for_disk(&mut self, until: u64) {
         for _ in 0..LOOKS {
-            let is_over = until <= now(self.rt, self.shared.start, self.now);
+            let is_over = until <= now(self.rt, self.epoch.start, self.now);
             if is_over || !self.source.is_keeping() {
                 return;
             }
@@ -187,7 +187,7 @@ impl<R: Wait + Clock + Log, H: HubCalls<N>, N: Opened, S: Source> AdminThread<
         if !end.is_over() {
             return;
         }
-        let until = now(self.rt, self.shared.start, self.now).saturating_add(FOR_LAST);
+        let until = now(self.rt, self.epoch.start, self.now).saturating_add(FOR_LAST);
         if let Some(why) = self.keep_last(file.path.as_str(), until) {
             tell_not_kept(self.rt, file.path.as_str(), why);
             self.tell_unkept_at_end();
@@ -196,7 +196,7 @@ impl<R: Wait + Clock + Log, H: HubCalls<N>, N: Opened, S: Source> AdminThread<
 
     /// Waits until somebody asks, or the ledgers are to be kept, or a writing is to be looked at, or the threads end.
     fn rest(&mut self) {
-        let parker = &self.shared.admin.thread;
+        let parker = &self.epoch.admin.thread;
         let left = match self.state {
             Some(_) => self.dues.keeping.saturating_sub(self.now),
             None => u64::MAX,

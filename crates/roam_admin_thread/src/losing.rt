@@ -10,13 +10,12 @@ use crate::next::out_of_memory;
 use log::Log;
 use roam_admin::{AdminReply, ReplyStatus, plain_reply};
 use roam_conf::{Config, Realm};
-use roam_history::Opened;
+use roam_history::{HubCalls, Opened};
 use roam_log::{DropCause, DroppedText};
 use roam_logger::tell_dropped;
 use roam_migrate::{Loss, changed_peers};
 use roam_realm::Gauges;
 use roam_reload::{RealmKey, has_same_outs, has_same_servers, is_other_in};
-use roam_workers::HubCalls;
 use std::alloc::{AllocError, Global};
 use std::io::Write;
 use std::sync::Wait;
@@ -102,13 +101,13 @@ pub fn tell_what_went<R: Log>(rt: &R, config: &Config, losses: &[Loss]) {
     }
 }
 
-impl<R: Wait, H: HubCalls<N>, N: Opened, S> AdminThread<'_, '_, '_, R, H, N, S> {
+impl<R: Wait, H: HubCalls<Global, N>, N: Opened, S> AdminThread<'_, '_, '_, R, H, N, S> {
     /// Returns what goes of the realm of an index; nothing where that isn't known.
     fn loss_at(&self, realm: u16, next: &Config, changed: &[u16]) -> Loss
         requires { AreChanged N.opening.config.peers (shown next.now).peers changed.now }
     {
         match self
-            .shared
+            .epoch
             .hub
             .losses(self.rt, &self.seat, realm, next, changed)
         {
@@ -126,9 +125,9 @@ impl<R: Wait, H: HubCalls<N>, N: Opened, S> AdminThread<'_, '_, '_, R, H, N, S> 
         ensures { IfOk result (λ changed.
             AreChanged N.opening.config.peers (shown next.now).peers changed.items) }
     {
-        let shared = self.shared;
-        let before = shared.config.peers.as_slice();
-        match changed_peers(shared.alloc, before, next.peers.as_slice()) {
+        let epoch = self.epoch;
+        let before = epoch.config.peers.as_slice();
+        match changed_peers(epoch.alloc, before, next.peers.as_slice()) {
             Ok(changed) => Ok(changed),
             Err(_) => Err(AllocError),
         }
@@ -137,8 +136,8 @@ impl<R: Wait, H: HubCalls<N>, N: Opened, S> AdminThread<'_, '_, '_, R, H, N, S> 
     /// Returns what goes of each realm where a configuration follows.
     fn all_losses(&self, next: &Config) -> Result<Vec<Loss>, AllocError> {
         let changed = self.changed_of(next)?;
-        let mut losses = Vec::new(self.shared.alloc);
-        for realm in 0..self.shared.config.realms.len() {
+        let mut losses = Vec::new(self.epoch.alloc);
+        for realm in 0..self.epoch.config.realms.len() {
             let loss = self.loss_at(realm as u16, next, changed.as_slice());
             losses.push(loss)?;
         }
@@ -148,31 +147,31 @@ impl<R: Wait, H: HubCalls<N>, N: Opened, S> AdminThread<'_, '_, '_, R, H, N, S> 
     /// Returns why a configuration isn't followed to which nobody agreed: a request that waits or a session would be
     /// lost by it as the realms stand now. The workers serve meanwhile, so it is looked again when they have ended.
     pub fn objection(&self, next: &Config) -> Option<AdminReply> {
-        let shared = self.shared;
+        let epoch = self.epoch;
         let Ok(losses) = self.all_losses(next) else {
-            return Some(out_of_memory(shared.alloc));
+            return Some(out_of_memory(epoch.alloc));
         };
         if losses.iter().all(|loss| is_nothing(loss)) {
             return None;
         }
-        let why = why_not(shared.alloc, shared.config, Some(next), losses.as_slice());
+        let why = why_not(epoch.alloc, epoch.config, Some(next), losses.as_slice());
         Some(plain_reply(ReplyStatus::Declined, why))
     }
 }
 
-impl<R: Wait + Log, H: HubCalls<N>, N: Opened, S> AdminThread<'_, '_, '_, R, H, N, S> {
+impl<R: Wait + Log, H: HubCalls<Global, N>, N: Opened, S> AdminThread<'_, '_, '_, R, H, N, S> {
     /// Returns how a realm stands that is here, by its index.
     fn standing_of(&self, index: u16) -> Option<Gauges> {
-        let shared = self.shared;
-        match shared.config.realms.get(usize::from(index)) {
-            Some(realm) if !realm.gone => shared.hub.look(self.rt, &self.seat, index),
+        let epoch = self.epoch;
+        match epoch.config.realms.get(usize::from(index)) {
+            Some(realm) if !realm.gone => epoch.hub.look(self.rt, &self.seat, index),
             _ => None,
         }
     }
 
     /// Tells what the realm of an index drops, since the server ends.
     fn tell_end_of(&self, index: u16, waiting: u64, sessions: u64) {
-        if let Some(realm) = self.shared.config.realms.get(usize::from(index)) {
+        if let Some(realm) = self.epoch.config.realms.get(usize::from(index)) {
             let dropped = DroppedText {
                 cause: DropCause::End,
                 realm: realm.name.as_str(),
@@ -187,7 +186,7 @@ impl<R: Wait + Log, H: HubCalls<N>, N: Opened, S> AdminThread<'_, '_, '_, R, H, 
     /// Tells what all realms drop, since the server ends: the requests that wait, and the sessions where no file is to
     /// keep them.
     pub fn tell_dropped_at_end(&self) {
-        for index in 0..self.shared.config.realms.len() {
+        for index in 0..self.epoch.config.realms.len() {
             if let Some(gauges) = self.standing_of(index as u16) {
                 let sessions = match self.state {
                     Some(_) => 0,
@@ -200,7 +199,7 @@ impl<R: Wait + Log, H: HubCalls<N>, N: Opened, S> AdminThread<'_, '_, '_, R, H, 
 
     /// Tells of how many sessions of all realms no file has that were to be kept in one at the end.
     pub fn tell_unkept_at_end(&self) {
-        for index in 0..self.shared.config.realms.len() {
+        for index in 0..self.epoch.config.realms.len() {
             if let Some(gauges) = self.standing_of(index as u16) {
                 self.tell_end_of(index as u16, 0, gauges.sessions as u64);
             }

@@ -14,13 +14,13 @@ use crate::trial::can_start;
 use log::Log;
 use roam_admin::{AdminReply, ReplyStatus, plain_reply};
 use roam_conf::Config;
-use roam_history::Opened;
+use roam_history::{HubCalls, Opened};
 use roam_logger::{Notice, tell_or_drop};
 use roam_outgoing::Counters;
 use roam_sockets::{
     BoundSocket, RECEIVE_BUFFER, ServeFault, bind_following, descriptors_wanted, open_beside, widen,
 };
-use roam_workers::{HubCalls, Shared};
+use roam_workers::Epoch;
 use std::alloc::Global;
 use std::io::Write;
 use std::net::Net;
@@ -112,20 +112,19 @@ fn is_stopping(alloc: Global) -> AdminReply {
 
 /// Binds the sockets of a configuration that follows the one that is served, and makes its counts. Sockets that both
 /// want are the same.
-fn bind_next<R: Net + Log, H: HubCalls<N>, N: Opened>(
+fn bind_next<R: Net + Log, H: HubCalls<Global, N>, N: Opened>(
     rt: &R,
-    shared: &Shared<'_, '_, H, N>,
-    sockets: &[BoundSocket],
+    epoch: &Epoch<'_, '_, H, N>,
     config: Config,
     manner: Manner,
 ) -> Result<Configured, ServeFault>
     ensures { IfOk result (λ configured. configured.config ≡ config) }
 {
-    let wanted = descriptors_wanted(shared.config, &config);
-    let sockets = bind_following(rt, shared.alloc, &config, sockets, wanted)?;
+    let wanted = descriptors_wanted(epoch.config, &config);
+    let sockets = bind_following(rt, epoch.alloc, &config, epoch.sockets, wanted)?;
     widen_all(rt, &config, sockets.as_slice());
-    let counters = match shared.counters {
-        Some(_) => Some(Counters::after(shared.alloc, shared.config, &config)?),
+    let counters = match epoch.counters {
+        Some(_) => Some(Counters::after(epoch.alloc, epoch.config, &config)?),
         None => None,
     };
     Ok(Configured {
@@ -149,10 +148,9 @@ fn words_of<S: Source>(source: &mut S, sockets: &[BoundSocket], fault: ServeFaul
 }
 
 /// Makes all that the server needs for a configuration that follows the one that is served.
-fn make_next<R: Host, H: HubCalls<N>, N: Opened>(
+fn make_next<R: Host, H: HubCalls<Global, N>, N: Opened>(
     rt: &R,
-    shared: &Shared<'_, '_, H, N>,
-    sockets: &[BoundSocket],
+    epoch: &Epoch<'_, '_, H, N>,
     following: Following,
 ) -> Result<Next, ServeFault>
     ensures { IfOk result (λ next. next.configured.config ≡ following.config) }
@@ -162,9 +160,9 @@ fn make_next<R: Host, H: HubCalls<N>, N: Opened>(
         manner,
         report,
     } = following;
-    let alloc = shared.alloc;
-    let configured = bind_next(rt, shared, sockets, config, manner)?;
-    let wanted = descriptors_wanted(shared.config, &configured.config);
+    let alloc = epoch.alloc;
+    let configured = bind_next(rt, epoch, config, manner)?;
+    let wanted = descriptors_wanted(epoch.config, &configured.config);
     let spare = room_for_threads(rt, alloc, &configured)?;
     let parts = EpochParts::new(rt, alloc, &configured, wanted)?;
     Ok(Next {
@@ -182,15 +180,15 @@ fn make_next<R: Host, H: HubCalls<N>, N: Opened>(
 ///
 /// What is answered where none follows.
 pub fn following_of<H, N: Opened, S: Source>(
-    shared: &Shared<'_, '_, H, N>,
+    epoch: &Epoch<'_, '_, H, N>,
     source: &mut S,
 ) -> Result<Following, AdminReply>
     ensures { IfOk result (λ following. MayFollow N.opening.config (shown following.config)) }
 {
-    if shared.stopping.is_asked() {
-        return Err(is_stopping(shared.alloc));
+    if epoch.stopping.is_asked() {
+        return Err(is_stopping(epoch.alloc));
     }
-    match source.following(shared.config) {
+    match source.following(epoch.config) {
         Ok(following) => Ok(following),
         Err(body) => Err(declined(body)),
     }
@@ -202,17 +200,16 @@ pub fn following_of<H, N: Opened, S: Source>(
 /// # Errors
 ///
 /// What is answered where it can't be had.
-pub fn prepare_next<R: Host, H: HubCalls<N>, N: Opened, S: Source>(
+pub fn prepare_next<R: Host, H: HubCalls<Global, N>, N: Opened, S: Source>(
     rt: &R,
-    shared: &Shared<'_, '_, H, N>,
-    sockets: &[BoundSocket],
+    epoch: &Epoch<'_, '_, H, N>,
     source: &mut S,
     following: Following,
 ) -> Result<Next, AdminReply>
     ensures { IfOk result (λ next. next.configured.config ≡ following.config) }
 {
-    match make_next(rt, shared, sockets, following) {
+    match make_next(rt, epoch, following) {
         Ok(next) => Ok(next),
-        Err(fault) => Err(declined(words_of(source, sockets, fault))),
+        Err(fault) => Err(declined(words_of(source, epoch.sockets, fault))),
     }
 }

@@ -5,13 +5,15 @@ ghost use Rattle.roam_sessions.specs.Ledgers.{SavedItem, ledgers_text};
 ghost use Rattle.roam_realm.specs.Written.{GainsItems};
 
 use crate::attending::AdminThread;
-use roam_history::Opened;
+use roam_history::{HubCalls, Opened};
 use roam_sessions::Writing;
-use roam_workers::{HubCalls, SESSIONS_AT_ONCE};
 use std::alloc::{AllocError, Global};
 use std::sync::Wait;
 
-impl<R: Wait, H: HubCalls<N>, N: Opened, S> AdminThread<'_, '_, '_, R, H, N, S> {
+/// The number of sessions that are written while a shard waits.
+const SESSIONS_AT_ONCE: usize = 256;
+
+impl<R: Wait, H: HubCalls<Global, N>, N: Opened, S> AdminThread<'_, '_, '_, R, H, N, S> {
     /// Writes those sessions of a realm that have these tickets and are still open: its shard's lock is let go of after
     /// so many.
     fn write_sessions(
@@ -23,7 +25,7 @@ impl<R: Wait, H: HubCalls<N>, N: Opened, S> AdminThread<'_, '_, '_, R, H, N, S> 
         ensures { OnOk result (GainsItems writing.old writing.new) }
     {
         for few in tickets.chunks(SESSIONS_AT_ONCE) {
-            self.shared
+            self.epoch
                 .hub
                 .save(self.rt, &self.seat, realm, few, writing)?;
         }
@@ -34,9 +36,9 @@ impl<R: Wait, H: HubCalls<N>, N: Opened, S> AdminThread<'_, '_, '_, R, H, N, S> 
     fn begin_realm(&self, realm: u16, writing: &mut Writing<Global>) -> Result<Vec<u64>, AllocError>
         ensures { OnOk result (GainsItems writing.old writing.new) }
     {
-        let mut tickets = Vec::new(self.shared.alloc);
+        let mut tickets = Vec::new(self.epoch.alloc);
         match self
-            .shared
+            .epoch
             .hub
             .begin_saving(self.rt, &self.seat, realm, &mut tickets, writing)
         {
@@ -60,10 +62,10 @@ impl<R: Wait, H: HubCalls<N>, N: Opened, S> AdminThread<'_, '_, '_, R, H, N, S> 
     /// Writes the realm of an index and its sessions, where it is here.
     #[tactic(auto, using(crate::proofs::GainLemmas::gains_none))]
     fn write_if_here(&self, index: usize, writing: &mut Writing<Global>) -> Result<(), AllocError>
-        requires { index < vec_len self.now.shared.now.config.now.realms }
+        requires { index < vec_len self.now.epoch.now.config.now.realms }
         ensures { OnOk result (GainsItems writing.old writing.new) }
     {
-        if self.shared.config.realms[index].gone {
+        if self.epoch.config.realms[index].gone {
             return Ok(());
         }
         self.write_realm(index as u16, writing)?;
@@ -74,8 +76,8 @@ impl<R: Wait, H: HubCalls<N>, N: Opened, S> AdminThread<'_, '_, '_, R, H, N, S> 
     pub fn ledgers(&self) -> Result<Vec<u8>, AllocError>
         ensures { IfOk result (λ octets. (items : List SavedItem) × (octets.items ≡ ledgers_text items)) }
     {
-        let mut writing = Writing::new(self.shared.alloc)?;
-        for index in 0..self.shared.config.realms.len() {
+        let mut writing = Writing::new(self.epoch.alloc)?;
+        for index in 0..self.epoch.config.realms.len() {
             self.write_if_here(index, &mut writing)?;
         }
         let octets = writing.finish()?;

@@ -1,5 +1,5 @@
 -- The rest of a hub that was closed, and what follows the time under a configuration (ours).
-use Rattle.std.specs.Prelude.{◌≡◌, ◌⊎◌, List}
+use Rattle.std.specs.Prelude.{◌≡◌, ◌⊎◌, ℕ, ◌+◌, ◌-◌, ◌^◌, List, length, min, sum_by}
 use Rattle.roam_conf.specs.Config.{ConfigView}
 use Rattle.roam_conf.specs.Shown.{shown}
 use Rattle.roam_reload.specs.Reload.{MayFollow}
@@ -26,6 +26,12 @@ module _ {A : Type 0} where
   -- they stand where some histories from there end
   abbrev pub EndSomewhere : HubOpening → List (Paused A) → Type 0
   EndSomewhere o shards = (steps : List (List PlainStep)) × EndsOf o steps shards
+
+  -- they stand there, and the steps of these histories are counted beside those from before, up to 2^64 - 1
+  abbrev pub EndCounted : HubOpening → ℕ → ℕ → List (Paused A) → Type 0
+  EndCounted o before after shards =
+      (steps : List (List PlainStep)) × EndsOf o steps shards
+      × (after ≡ min (2 ^ 64 - 1) (before + min (sum_by length steps) (2 ^ 64 - 1)))
 
 -- what follows the time under a configuration: another configuration may, where one does. What couldn't be started was
 -- so when all sockets were bound

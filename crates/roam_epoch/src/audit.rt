@@ -1,19 +1,18 @@
 //! An epoch's hub is closed, and what it kept is audited.
 
-ghost use Rattle.std.specs.Prelude.{◌≡◌, IfErr, IfOk, length};
+ghost use Rattle.std.specs.Prelude.{◌≡◌, IfErr, IfOk, OnOk, length};
 ghost use Rattle.roam_history.specs.Shown.{recorded};
-ghost use Rattle.roam_epoch.specs.Closed.{EndSomewhere, EndsOf};
+ghost use Rattle.roam_counters.specs.Datagrams.{with_all};
+ghost use Rattle.roam_epoch.specs.Closed.{EndCounted, EndsOf};
 ghost use Rattle.roam_sockets.specs.Faults.{IsAfterBinding};
-ghost use Rattle.roam_workers.specs.Endings.{job_counts_of};
+ghost use Rattle.roam_workers.specs.Endings.{datagrams_of};
 ghost use Rattle.roam_workers.specs.JobCounts.{AreAllTaken};
 
 use crate::carryover::Carryover;
-use crate::epoch::Epoch;
 use crate::given_back::given_back;
 use crate::room::EpochRoom;
 use roam_hub::{Audited, Hub, Opened, PauseRoom, Paused, PausedHub, Seat};
 use roam_sockets::ServeFault;
-use roam_workers::Ended;
 use std::alloc::Global;
 use std::sync::Wait;
 
@@ -48,84 +47,50 @@ pub fn close_and_audit<'c, R: Wait, N: Opened>(
     }
 }
 
-/// Closes and audits a hub whose threads gave back what they had.
-///
-/// # Errors
-///
-/// `Audit`.
-fn close_ended<'c, R: Wait, N: Opened>(
-    rt: &R,
-    hub: Hub<'c, Global, N>,
-    pause: PauseRoom<'c, Global, N>,
-    ended: Ended<N>,
-    left: Carryover,
-) -> Result<Carryover, ServeFault>
-    ensures ends { IfOk result (λ carry. EndSomewhere N.opening carry.shards.items) }
-    ensures err { IfErr result IsAfterBinding }
+/// Returns what is carried over of a hub that passed its audit: its shards, and its steps counted beside the others.
+fn with_audited<N: Opened>(
+    carry: Carryover,
+    audited: Audited<Global, N>,
+    shards: Vec<Paused<Global>>,
+) -> Carryover
+    requires { EndsOf N.opening (recorded audited.report) shards.items }
+    ensures ends { EndCounted N.opening carry.steps result.steps result.shards.items }
+    ensures datagrams { result.datagrams ≡ carry.datagrams }
 {
-    let Ended {
-        has_given_up: _,
-        datagrams: _,
-        jobs,
-        seats,
-        outboxes,
-        rests,
-    } = ended;
-    drop(jobs);
-    match close_and_audit(rt, hub, pause, seats) {
-        Ok((audited, shards)) => {
-            let mut carry = left;
-            carry.steps = carry.steps.saturating_add(audited.report().count_steps());
-            drop(audited);
-            carry.outboxes = outboxes;
-            carry.rests = rests;
-            carry.shards = shards;
-            Ok(carry)
-        }
-        Err(fault) => {
-            drop(left);
-            drop(outboxes);
-            drop(rests);
-            Err(fault)
-        }
-    }
+    let mut carry = carry;
+    carry.steps = carry.steps.saturating_add(audited.report().count_steps());
+    drop(audited);
+    carry.shards = shards;
+    carry
 }
 
-/// Closes and audits a hub whose threads have ended, and with it the queues of jobs between them.
+/// Closes and audits a hub whose threads have ended, and with it the queues of jobs between them. Returns what goes on
+/// to the next epoch.
 ///
 /// # Errors
 ///
 /// `Receive`, where a socket was given up, and `Audit`.
-pub fn close_after<R: Wait, N: Opened>(
+pub fn close_after<'c, R: Wait, N: Opened>(
     rt: &R,
-    epoch: Epoch<'_, N>,
-    room: EpochRoom<N>,
-    left: Carryover,
+    hub: Hub<'c, Global, N>,
+    room: EpochRoom<'c, N>,
 ) -> Result<Carryover, ServeFault>
-    ensures jobs { IfOk result (λ carry.
-        AreAllTaken (λ v. v.items) (length epoch.queues.items) (job_counts_of room.ends.items)) }
-    ensures ends { IfOk result (λ carry. EndSomewhere N.opening carry.shards.items) }
+    ensures jobs { OnOk result (AreAllTaken (λ e. e.jobs.items) (length room.queues.items) room.ends.items) }
+    ensures ends { IfOk result (λ carry. EndCounted N.opening room.carry.steps carry.steps carry.shards.items) }
+    ensures datagrams { IfOk result (λ carry. carry.datagrams.counts
+        ≡ with_all room.carry.datagrams.counts (datagrams_of room.ends.items)) }
     ensures err { IfErr result IsAfterBinding }
 {
-    let Epoch {
-        configured: _,
-        hub,
-        pause,
-        queues,
-        wakers,
-        logger,
-        stop: _,
-        rest,
-    } = epoch;
-    drop(wakers);
-    drop(logger);
-    drop(rest);
-    match given_back(room, queues) {
-        Ok(ended) => close_ended(rt, hub, pause, ended, left),
+    match given_back(room) {
+        Ok((pause, seats, carry)) => match close_and_audit(rt, hub, pause, seats) {
+            Ok((audited, shards)) => Ok(with_audited(carry, audited, shards)),
+            Err(fault) => {
+                drop(carry);
+                Err(fault)
+            }
+        },
         Err(fault) => {
             drop(hub);
-            drop(pause);
-            drop(left);
             Err(fault)
         }
     }

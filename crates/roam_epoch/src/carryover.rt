@@ -4,6 +4,7 @@ ghost use Rattle.std.specs.Prelude.{◌≡◌};
 
 use roam_admin::AdminReply;
 use roam_admin_thread::Configured;
+use roam_counters::Datagrams;
 use roam_port::Outbox;
 use roam_shard::Paused;
 use roam_workers::Rests;
@@ -26,6 +27,8 @@ pub struct Carryover {
     pub before: Option<Configured>,
     /// The number of steps that were recorded.
     pub steps: u64,
+    /// The fates of the datagrams that were received.
+    pub datagrams: Datagrams,
 }
 
 // By hand, so that a proof sees one call wherever it ends, and not each of its parts.
@@ -39,6 +42,7 @@ impl Drop for Carryover {
             is_awaited: _,
             before,
             steps: _,
+            datagrams: _,
         } = self;
         drop(shards);
         drop(outboxes);
@@ -51,7 +55,8 @@ impl Drop for Carryover {
 impl Carryover {
     /// Returns what is carried over to the first epoch, which has no shards yet: outboxes in which nothing waits.
     pub fn first(alloc: Global, outboxes: Vec<Outbox<Global>>) -> Carryover
-        ensures { result.outboxes ≡ outboxes }
+        ensures outboxes { result.outboxes ≡ outboxes }
+        ensures steps { result.steps ≡ 0 }
     {
         Carryover {
             shards: Vec::new(alloc),
@@ -61,6 +66,7 @@ impl Carryover {
             is_awaited: false,
             before: None,
             steps: 0,
+            datagrams: Datagrams::none(),
         }
     }
 
@@ -70,6 +76,7 @@ impl Carryover {
         ensures outboxes { self.new.outboxes ≡ self.old.outboxes }
         ensures rests { self.new.rests ≡ self.old.rests }
         ensures steps { self.new.steps ≡ self.old.steps }
+        ensures datagrams { self.new.datagrams ≡ self.old.datagrams }
     {
         self.reply = Some(reply);
         self.before = Some(other);

@@ -9,15 +9,13 @@
 //!   configuration that follows may | `serve_epoch`: `ends`, `may`; `close_and_audit`: `ends`; `Source::following`
 //! - of threads that ended, for each shard as many jobs were handed on to its worker as that one took over, or the
 //!   audit fails | `close_after`: `jobs`; `given_back`
-//! - each call by which the threads ask a hub is the hub's own, with its contract: so what is proved of them over any
-//!   hub with these calls is proved over this one | `Epoch`
+//! - what is carried over counts the steps of the histories that were audited, and what became of the datagrams that
+//!   all threads received, beside what it counted before | `close_after`: `ends`, `datagrams`
 #![tactic(auto)]
 
 mod audit;
 mod carryover;
-mod epoch;
 mod given_back;
-mod hub_calls;
 mod ready_threads;
 mod room;
 mod running;

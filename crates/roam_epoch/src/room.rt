@@ -1,37 +1,127 @@
-//! The memory for what the threads of one epoch give back.
+//! The memory for what comes back of an epoch's hub and of its threads.
 
-ghost use Rattle.std.specs.Prelude.{◌≡◌, []};
+ghost use Rattle.std.specs.Prelude.{◌≡◌, IfErr, IfOk, length};
+ghost use Rattle.roam_conf.specs.Shown.{shown};
 
-use roam_hub::{Opened, Seat};
+use crate::carryover::Carryover;
+use roam_conf::Config;
+use roam_hub::{Opened, PauseRoom, Seat};
 use roam_port::Outbox;
-use roam_workers::{JobCounts, WorkerResult};
+use roam_workers::{LockedQueue, WorkerResult, make_queues};
 use std::alloc::{AllocError, Global};
 use std::sync::Wait;
 use std::thread::{JoinHandle, Threads};
 
-/// Room for the handles of the workers and the timer, for what they give back, and for the seats of all threads.
+/// Room for all that comes back of an epoch's hub and of its threads, and what is carried over. It is taken before the
+/// hub opens, so that nothing is lost for want of memory.
 #[derive(Drop)]
-pub struct EpochRoom<N: Opened> {
+pub struct EpochRoom<'c, N: Opened> {
+    pub carry: Carryover,
+    /// The memory with which the hub is paused.
+    pub pause: PauseRoom<'c, Global, N>,
+    /// The queue in which each worker finds the jobs that others received for its shard.
+    pub queues: Vec<LockedQueue<N>>,
+    /// For the handles of the workers and the timer, and for what they give back.
     pub handles: Vec<JoinHandle<WorkerResult<N>>>,
     pub ends: Vec<WorkerResult<N>>,
+    /// For the seats of all threads.
     pub seats: Vec<Seat<Global, N>>,
     pub outboxes: Vec<Outbox<Global>>,
-    /// For what each counted of jobs between workers: nothing is in it.
-    pub jobs: Vec<Vec<JobCounts>>,
-    ghost none_yet: { jobs.items ≡ [] },
 }
 
-impl<N: Opened> EpochRoom<N> {
-    /// Room for a worker for each of so many shards, the timer, and this thread, which has a seat too.
-    pub fn new(alloc: Global, shards: u16) -> Result<EpochRoom<N>, AllocError> {
-        let threads = usize::from(shards) + 1;
-        Ok(EpochRoom {
-            handles: Vec::with_capacity(alloc, threads)?,
-            ends: Vec::with_capacity(alloc, threads)?,
-            seats: Vec::with_capacity(alloc, threads + 1)?,
-            outboxes: Vec::with_capacity(alloc, threads)?,
-            jobs: Vec::with_capacity(alloc, threads)?,
-        })
+/// Takes the memory with which a hub is paused, and makes the queues of jobs between its workers.
+fn pause_and_queues<'c, N: Opened>(
+    alloc: Global,
+    config: &'c Config,
+) -> Result<(PauseRoom<'c, Global, N>, Vec<LockedQueue<N>>), AllocError>
+    requires { shown config.now ≡ N.opening.config }
+    ensures { IfOk result (λ r. length r.1.items ≡ config.now.top.shards) }
+{
+    let queues = make_queues(alloc, config.top.shards)?;
+    match PauseRoom::new(alloc, config) {
+        Ok(pause) => Ok((pause, queues)),
+        Err(_) => {
+            drop(queues);
+            Err(AllocError)
+        }
+    }
+}
+
+/// Takes room for so many threads that are joined: for their handles, what they give back, their outboxes, and the seats
+/// of them and of this thread.
+fn lists<N: Opened>(
+    alloc: Global,
+    threads: usize,
+) -> Result<
+    (
+        Vec<JoinHandle<WorkerResult<N>>>,
+        Vec<WorkerResult<N>>,
+        Vec<Seat<Global, N>>,
+        Vec<Outbox<Global>>,
+    ),
+    AllocError,
+> {
+    let handles = Vec::with_capacity(alloc, threads)?;
+    let ends = Vec::with_capacity(alloc, threads)?;
+    let seats = Vec::with_capacity(alloc, threads.saturating_add(1))?;
+    let outboxes = Vec::with_capacity(alloc, threads)?;
+    Ok((handles, ends, seats, outboxes))
+}
+
+impl<'c, N: Opened> EpochRoom<'c, N> {
+    /// Takes room for an epoch of this configuration, to which this is carried over. Where memory is wanting it comes
+    /// back as it was.
+    pub fn new(
+        alloc: Global,
+        config: &'c Config,
+        carry: Carryover,
+    ) -> Result<EpochRoom<'c, N>, Carryover>
+        requires { shown config.now ≡ N.opening.config }
+        ensures carry { IfOk result (λ room. room.carry ≡ carry) }
+        ensures queues { IfOk result (λ room. length room.queues.items ≡ config.now.top.shards) }
+        ensures err { IfErr result (λ back. back ≡ carry) }
+    {
+        let Ok((pause, queues)) = pause_and_queues::<N>(alloc, config) else {
+            return Err(carry);
+        };
+        match lists(alloc, usize::from(config.top.shards) + 1) {
+            Ok((handles, ends, seats, outboxes)) => Ok(EpochRoom {
+                carry,
+                pause,
+                queues,
+                handles,
+                ends,
+                seats,
+                outboxes,
+            }),
+            Err(_) => {
+                drop(pause);
+                drop(queues);
+                Err(carry)
+            }
+        }
+    }
+
+    /// Returns what is carried over, where the hub couldn't be opened.
+    pub fn into_carryover(self) -> Carryover
+        ensures { result ≡ self.carry }
+    {
+        let Self {
+            carry,
+            pause,
+            queues,
+            handles,
+            ends,
+            seats,
+            outboxes,
+        } = self;
+        drop(pause);
+        drop(queues);
+        drop(handles);
+        drop(ends);
+        drop(seats);
+        drop(outboxes);
+        carry
     }
 
     /// Waits for the end of each thread that has started, and keeps what it gives back.

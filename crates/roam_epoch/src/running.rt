@@ -7,15 +7,15 @@ use crate::ready_threads::ReadyThreads;
 use crate::room::EpochRoom;
 use crate::start::{start_all, tell_start};
 use roam_admin_thread::{AdminThread, EpochEnd, Host, Source};
-use roam_hub::Opened;
+use roam_hub::{HubCalls, Opened};
 use roam_sockets::ServeFault;
-use roam_workers::HubCalls;
+use std::alloc::Global;
 use std::thread;
 use std::thread::Scope;
 
 /// Tells that the configuration is served, where all threads have started, and answers who asks for something until
 /// they end or another one is to follow.
-fn attend<R: Host, H: HubCalls<N>, N: Opened, S: Source>(
+fn attend<R: Host, H: HubCalls<Global, N>, N: Opened, S: Source>(
     have_started: bool,
     admin_thread: &mut AdminThread<'_, '_, '_, R, H, N, S>,
     carry: &mut Carryover,
@@ -25,7 +25,7 @@ fn attend<R: Host, H: HubCalls<N>, N: Opened, S: Source>(
     if !have_started {
         return EpochEnd::Failed(ServeFault::Thread);
     }
-    tell_start(admin_thread.rt, admin_thread.shared, carry);
+    tell_start(admin_thread.rt, admin_thread.epoch, carry);
     match admin_thread.run() {
         Some(next) => EpochEnd::Follows(next),
         None => EpochEnd::Over,
@@ -39,28 +39,27 @@ fn run_within<
     'c: 's,
     E,
     R: Host,
-    H: HubCalls<N> + Sync,
+    H: HubCalls<Global, N> + Sync,
     N: Opened + Send + Sync,
     S: Source,
 >(
     scope: &Scope<'s, E>,
     admin_thread: AdminThread<'w, 'c, '_, R, H, N, S>,
     threads: ReadyThreads<'w, 'c, H, N>,
-    room: EpochRoom<N>,
-    carry: &mut Carryover,
-) -> (EpochEnd, EpochRoom<N>)
+    room: EpochRoom<'c, N>,
+) -> (EpochEnd, EpochRoom<'c, N>)
     ensures { MayGoOn N.opening.config result.0 }
 {
     let mut admin_thread = admin_thread;
     let mut room = room;
     let rt = admin_thread.rt;
-    let shared = admin_thread.shared;
-    let have_started = start_all(scope, rt, shared, threads, &mut room.handles);
-    let end = attend(have_started, &mut admin_thread, carry);
-    shared.end_all();
-    room.join_all(rt, shared.alloc);
+    let epoch = admin_thread.epoch;
+    let have_started = start_all(scope, rt, epoch, threads, &mut room.handles);
+    let end = attend(have_started, &mut admin_thread, &mut room.carry);
+    epoch.end_all();
+    room.join_all(rt, epoch.alloc);
     admin_thread.keep_at_end(&end);
-    shared.logger.unpark();
+    epoch.logger.unpark();
     room.keep_seat(admin_thread.seat);
     (end, room)
 }
@@ -69,20 +68,26 @@ fn run_within<
 /// that this one is served, also to who asked for it. Until the end this thread answers who asks for something. Where
 /// one can't be started, the others are ended. Where the server ends, the ledgers of sessions are kept as they stand
 /// then.
-pub fn run_threads<'s, 'c, R: Host, H: HubCalls<N> + Sync, N: Opened + Send + Sync, S: Source>(
+pub fn run_threads<
+    's,
+    'c,
+    R: Host,
+    H: HubCalls<Global, N> + Sync,
+    N: Opened + Send + Sync,
+    S: Source,
+>(
     admin_thread: AdminThread<'s, 'c, '_, R, H, N, S>,
     threads: ReadyThreads<'s, 'c, H, N>,
-    room: EpochRoom<N>,
-    carry: &mut Carryover,
-) -> (EpochEnd, EpochRoom<N>)
+    room: EpochRoom<'c, N>,
+) -> (EpochEnd, EpochRoom<'c, N>)
     ensures { MayGoOn N.opening.config result.0 }
 {
     let rt = admin_thread.rt;
     thread::scope(
         thread::scope_env(),
         rt,
-        move |scope| -> (EpochEnd, EpochRoom<N>)
+        move |scope| -> (EpochEnd, EpochRoom<'c, N>)
             ensures { MayGoOn N.opening.config result.0 }
-        { run_within(scope, admin_thread, threads, room, carry) },
+        { run_within(scope, admin_thread, threads, room) },
     )
 }

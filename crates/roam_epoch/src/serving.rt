@@ -1,6 +1,6 @@
 //! One epoch: its hub is opened, its threads run, and it is closed and audited.
 
-ghost use Rattle.std.specs.Prelude.{◌≡◌, IfOk, IfErr};
+ghost use Rattle.std.specs.Prelude.{◌≡◌, IfOk, IfErr, length};
 ghost use Rattle.roam_conf.specs.Shown.{shown};
 ghost use Rattle.roam_history.specs.Books.{books_of, count_of};
 ghost use Rattle.roam_hub.specs.Pausing.{ArePaused, opening_over};
@@ -9,60 +9,99 @@ ghost use Rattle.roam_sockets.specs.Faults.{IsAfterBinding};
 
 use crate::audit::close_after;
 use crate::carryover::Carryover;
-use crate::epoch::Epoch;
 use crate::ready_threads::{Crew, prepare_threads};
 use crate::room::EpochRoom;
 use crate::running::run_threads;
 use crate::server_parts::ServerParts;
 use roam_admin_thread::{AdminThread, Configured, EpochEnd, EpochParts, Host, Source};
-use roam_hub::Opened;
+use roam_hub::{Blanks, Hub, Opened, Seat};
 use roam_sockets::ServeFault;
-use roam_workers::{Rests, Shared};
+use roam_workers::{Epoch, Rests, TimerRest};
+use std::alloc::Global;
+use std::mem;
+use std::sync::atomic::AtomicBool;
+use std::thread::Parker;
+
+/// Opens a hub over the shards that are carried over, which stand under its configuration. Returns it with the seat that
+/// it opens with, and room for what comes back of it. Where memory is wanting, what is carried over comes back, with the
+/// shards as they were.
+fn open_over<'c, N: Opened>(
+    alloc: Global,
+    configured: &'c Configured,
+    carry: Carryover,
+    blanks: Blanks<Global>,
+) -> Result<(Hub<'c, Global, N>, Seat<Global, N>, EpochRoom<'c, N>), Carryover>
+    requires opening { N.opening ≡ opening_over (shown configured.now.config) carry.shards.items }
+    requires books { N.books ≡ books_of blanks }
+    requires blanks { count_of blanks ≡ configured.now.config.top.shards }
+    requires paused { ArePaused (shown configured.now.config) carry.shards.items }
+    ensures queues { IfOk result (λ opened. length opened.2.queues.items ≡ configured.now.config.top.shards) }
+    ensures err { IfErr result (λ back. back.shards.items ≡ carry.shards.items) }
+{
+    let config = &configured.config;
+    match EpochRoom::<'_, N>::new(alloc, config, carry) {
+        Ok(room) => {
+            let mut room = room;
+            let shards = mem::replace(&mut room.carry.shards, Vec::new(alloc));
+            match Hub::<'_, Global, N>::open_over(alloc, config, shards, blanks) {
+                Ok((hub, seat)) => Ok((hub, seat, room)),
+                Err(shards) => {
+                    let mut carry = room.into_carryover();
+                    carry.shards = shards;
+                    Err(carry)
+                }
+            }
+        }
+        Err(carry) => {
+            drop(blanks);
+            Err(carry)
+        }
+    }
+}
 
 /// Runs the threads of one epoch, from their start to their end. Returns how that came, and what they gave back.
-fn run<R: Host, N: Opened + Send + Sync, S: Source>(
+fn run<'c, R: Host, N: Opened + Send + Sync, S: Source>(
     server: &mut ServerParts<'_, R, S>,
-    epoch: &Epoch<'_, N>,
+    configured: &'c Configured,
+    hub: &Hub<'c, Global, N>,
     crew: Crew<N>,
-    room: EpochRoom<N>,
-    carry: &mut Carryover,
-) -> (EpochEnd, EpochRoom<N>)
-    requires { shown epoch.now.configured.now.config ≡ N.opening.config }
-    ensures { MayGoOn N.opening.config result.0 }
+    room: EpochRoom<'c, N>,
+) -> (EpochEnd, EpochRoom<'c, N>)
+    requires { shown configured.now.config ≡ N.opening.config }
+    ensures may { MayGoOn N.opening.config result.0 }
+    ensures queues { length result.1.queues.items ≡ length room.queues.items }
 {
-    let configured = epoch.configured;
-    let shared = Shared {
-        alloc: server.alloc,
+    let alloc = server.alloc;
+    let (mut crew, mut room) = (crew, room);
+    let epoch = Epoch {
+        alloc,
         config: &configured.config,
-        hub: epoch,
-        logger: &epoch.logger,
-        wakers: epoch.wakers.as_slice(),
-        rest: &epoch.rest,
-        queues: epoch.queues.as_slice(),
+        sockets: configured.sockets.as_slice(),
+        hub,
+        logger: Parker::new(),
+        wakers: mem::replace(&mut crew.wakers, Vec::new(alloc)),
+        rest: TimerRest::new(),
+        queues: mem::replace(&mut room.queues, Vec::new(alloc)),
         losses: server.losses,
         counters: configured.counters.as_ref(),
         told_exchanges: configured.manner.told_exchanges,
-        stations: configured.manner.stations,
         admin: server.admin,
         stopping: server.stopping,
         reclaimer: server.reclaimer,
-        stop: &epoch.stop,
+        stop: AtomicBool::new(false),
         start: server.start,
         end: server.end,
     };
-    match prepare_threads(configured.sockets.as_slice(), &shared, crew) {
+    let (end, room) = match prepare_threads(&epoch, crew) {
         Ok((threads, seat)) => {
-            let admin_thread = AdminThread::new(
-                server.rt,
-                &shared,
-                configured,
-                seat,
-                server.source,
-            );
-            run_threads(admin_thread, threads, room, carry)
+            let admin_thread = AdminThread::new(server.rt, &epoch, configured, seat, server.source);
+            run_threads(admin_thread, threads, room)
         }
         Err(fault) => (EpochEnd::Failed(fault), room),
-    }
+    };
+    let mut room = room;
+    room.queues = epoch.into_queues();
+    (end, room)
 }
 
 /// Returns what was told of servers, or where that isn't known this.
@@ -97,21 +136,27 @@ pub fn serve_epoch<N: Opened + Send + Sync, R: Host, S: Source>(
     ensures err { IfErr result IsAfterBinding }
 {
     let alloc = server.alloc;
-    let mut carry = carry;
-    let (wakers, timer, workers, rests, blanks) = parts.into_parts();
-    let rests = told_or(carry.rests.take(), rests);
-    let shards = std::mem::replace(&mut carry.shards, Vec::new(alloc));
-    match Epoch::<'_, N>::open(alloc, configured, wakers, shards, blanks) {
-        Ok((epoch, seat, room)) => {
+    let EpochParts {
+        wakers,
+        timer,
+        workers,
+        logger,
+        rests,
+        blanks,
+    } = parts;
+    match open_over::<N>(alloc, configured, carry, blanks) {
+        Ok((hub, seat, mut room)) => {
             let crew = Crew {
                 seat,
+                wakers,
                 timer,
                 workers,
-                outboxes: std::mem::replace(&mut carry.outboxes, Vec::new(alloc)),
-                rests,
+                logger,
+                outboxes: mem::replace(&mut room.carry.outboxes, Vec::new(alloc)),
+                rests: told_or(room.carry.rests.take(), rests),
             };
-            let (end, room) = run(server, &epoch, crew, room, &mut carry);
-            match close_after(server.rt, epoch, room, carry) {
+            let (end, room) = run(server, configured, &hub, crew, room);
+            match close_after(server.rt, hub, room) {
                 Ok(carry) => Ok((end, carry)),
                 Err(fault) => {
                     drop(end);
@@ -119,11 +164,10 @@ pub fn serve_epoch<N: Opened + Send + Sync, R: Host, S: Source>(
                 }
             }
         }
-        Err(shards) => {
-            drop(timer);
-            drop(workers);
-            carry.rests = Some(rests);
-            carry.shards = shards;
+        Err(carry) => {
+            drop((wakers, timer, workers, logger));
+            let mut carry = carry;
+            carry.rests = Some(told_or(carry.rests.take(), rests));
             Ok((EpochEnd::Failed(ServeFault::Memory), carry))
         }
     }

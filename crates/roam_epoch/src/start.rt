@@ -4,11 +4,12 @@ use crate::carryover::Carryover;
 use crate::ready_threads::ReadyThreads;
 use log::Log;
 use roam_admin::{AdminReply, ReplyStatus};
-use roam_hub::Opened;
+use roam_hub::{HubCalls, Opened};
 use roam_log::ReloadEnd;
 use roam_logger::{log_notices, serving, tell_or_drop, tell_reload};
 use roam_sockets::now;
-use roam_workers::{HubCalls, Shared, Worker, WorkerResult, receive_on, tick_on};
+use roam_workers::{Epoch, Worker, WorkerResult, receive_on, tick_on};
+use std::alloc::Global;
 use std::sync::Wait;
 use std::thread::{JoinHandle, Scope, SpawnError};
 use std::time::Clock;
@@ -36,7 +37,7 @@ fn start_workers<
     'c: 's,
     E,
     R: Wait + Clock + Sync,
-    H: HubCalls<N> + Sync,
+    H: HubCalls<Global, N> + Sync,
     N: Opened + Send + Sync,
 >(
     scope: &Scope<'s, E>,
@@ -59,12 +60,12 @@ pub fn start_all<
     'c: 's,
     E,
     R: Wait + Clock + Log + Sync,
-    H: HubCalls<N> + Sync,
+    H: HubCalls<Global, N> + Sync,
     N: Opened + Send + Sync,
 >(
     scope: &Scope<'s, E>,
     rt: &'s R,
-    shared: &'s Shared<'w, 'c, H, N>,
+    epoch: &'s Epoch<'w, 'c, H, N>,
     prepared: ReadyThreads<'w, 'c, H, N>,
     handles: &mut Vec<JoinHandle<WorkerResult<N>>>,
 ) -> bool {
@@ -73,10 +74,12 @@ pub fn start_all<
         timer,
         logger,
     } = prepared;
+    let counts = epoch.timer_counts();
     let logs = has_started(scope.spawn(move || log_notices(
         rt,
-        shared.config,
-        shared.logger,
+        epoch.config,
+        counts,
+        &epoch.logger,
         logger,
     )));
     let work = start_workers(scope, rt, workers, handles);
@@ -95,11 +98,11 @@ fn reload_end(status: ReplyStatus) -> ReloadEnd {
 /// Tells how a reload went, counts it, and answers who asked for it, where that one still waits.
 fn tell_reply<R: Wait + Clock + Log, H, N: Opened>(
     rt: &R,
-    shared: &Shared<'_, '_, H, N>,
+    epoch: &Epoch<'_, '_, H, N>,
     reply: AdminReply,
     is_awaited: bool,
 ) {
-    let admin = shared.admin;
+    let admin = epoch.admin;
     tell_reload(rt, reload_end(reply.status), reply.body.as_slice());
     admin.count_reload(reply.status, now(rt, admin.start, 0));
     if is_awaited {
@@ -113,12 +116,12 @@ fn tell_reply<R: Wait + Clock + Log, H, N: Opened>(
 /// what the one of before had.
 pub fn tell_start<R: Wait + Clock + Log, H, N: Opened>(
     rt: &R,
-    shared: &Shared<'_, '_, H, N>,
+    epoch: &Epoch<'_, '_, H, N>,
     carry: &mut Carryover,
 ) {
-    tell_or_drop(rt, shared.config, serving(shared.config));
+    tell_or_drop(rt, epoch.config, serving(epoch.config));
     drop(carry.before.take());
     if let Some(reply) = carry.reply.take() {
-        tell_reply(rt, shared, reply, carry.is_awaited);
+        tell_reply(rt, epoch, reply, carry.is_awaited);
     }
 }

@@ -18,11 +18,10 @@ mod due;
 mod saving;
 mod standing;
 
-use crate::call::Call;
 use crate::writing::{closed, recorded, without_steps};
 use roam_admission::Job;
 use roam_exchange::Turned;
-use roam_history::{Answered, Front, Head, HubFault, Opened, Refused, Seat};
+use roam_history::{Answered, Call, Front, Head, HubFault, Opened, Refused, Seat};
 use roam_shard::{Shard, Step, Traced};
 use std::alloc::Allocator;
 use std::marker::Model;

@@ -12,7 +12,7 @@ pub struct TimerRest {
 }
 
 impl TimerRest {
-    /// Makes a timer that doesn't rest, and is woken through this.
+    /// Makes a timer that doesn't rest.
     pub fn new() -> TimerRest {
         TimerRest {
             is_resting: AtomicBool::new(false),

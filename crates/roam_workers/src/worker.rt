@@ -12,12 +12,11 @@ ghost use Rattle.roam_workers.specs.Work.{HasWorked, HasWorkedTo};
 use crate::buffer::give_back;
 use crate::context::WorkerContext;
 use crate::hearing::Hearing;
-use crate::hub_calls::HubCalls;
 use crate::ready::{keep_ready, mark_all_ready, mark_ready, wait_before};
 use crate::worker_jobs::WorkerJobs;
 use crate::worker_result::{ExitReason, WorkerResult};
 use mio::{Events, Poll};
-use roam_history::Opened;
+use roam_history::{HubCalls, Opened};
 use roam_port::Heard;
 use roam_sockets::{Receiver, WAIT_AFTER_FAULT};
 use std::alloc::Global;
@@ -82,8 +81,8 @@ fn wait<R: Wait + Clock, H, N: Opened>(rt: &R, worker: &mut Worker<'_, '_, H, N>
     let wait = wait.min(worker.context.junk.time_left(now));
     let wait = wait.min(worker.context.exchanges.time_left(now, LINES_WITHIN));
     let wait = worker.context.outgoing.wait_for_room(wait);
-    let shared = worker.context.shared;
-    let wait = shared.wait_for_jobs(rt, worker.jobs.number, wait);
+    let epoch = worker.context.epoch;
+    let wait = epoch.wait_for_jobs(rt, worker.jobs.number, wait);
     let timeout = Some(Duration::from_millis(wait));
     if worker.poll.poll(&mut worker.events, timeout).is_ok() {
         mark_ready(
@@ -100,7 +99,7 @@ fn wait<R: Wait + Clock, H, N: Opened>(rt: &R, worker: &mut Worker<'_, '_, H, N>
 
 /// Takes what is heard at one socket, up to `IN_A_ROUND` datagrams: why the worker ends with it, if it does. Once all
 /// are to end it takes no other one: what is there waits for whoever serves next.
-fn take_portion<R: Wait + Clock, H: HubCalls<N>, N: Opened, T: Hearing>(
+fn take_portion<R: Wait + Clock, H: HubCalls<Global, N>, N: Opened, T: Hearing>(
     rt: &R,
     context: &mut WorkerContext<'_, '_, H, N>,
     jobs: &mut WorkerJobs<N>,
@@ -116,9 +115,9 @@ fn take_portion<R: Wait + Clock, H: HubCalls<N>, N: Opened, T: Hearing>(
     ensures worked { HasWorked N.opening (at_work context.old.seat context.old.counting context.old.outgoing)
         (at_work context.new.seat context.new.counting context.new.outgoing) }
 {
-    let alloc = context.shared.alloc;
+    let alloc = context.epoch.alloc;
     for _ in 0..IN_A_ROUND {
-        if context.shared.is_over() {
+        if context.epoch.is_over() {
             return Some(ExitReason::Stopped);
         }
         match receiver.hear(alloc, buffer) {
@@ -136,7 +135,7 @@ fn take_portion<R: Wait + Clock, H: HubCalls<N>, N: Opened, T: Hearing>(
 }
 
 /// Looks at the clock where receives failed: for how long, is counted from then on.
-fn look_after_faults<R: Clock, H: HubCalls<N>, N: Opened>(
+fn look_after_faults<R: Clock, H: HubCalls<Global, N>, N: Opened>(
     rt: &R,
     context: &mut WorkerContext<'_, '_, H, N>,
     faults: u32,
@@ -151,7 +150,7 @@ fn look_after_faults<R: Clock, H: HubCalls<N>, N: Opened>(
 }
 
 /// Takes what arrived at one socket, and sends what that gives: why the worker ends with it, if it does.
-fn receive_portion<R: Wait + Clock, H: HubCalls<N>, N: Opened>(
+fn receive_portion<R: Wait + Clock, H: HubCalls<Global, N>, N: Opened>(
     rt: &R,
     context: &mut WorkerContext<'_, '_, H, N>,
     jobs: &mut WorkerJobs<N>,
@@ -172,7 +171,7 @@ fn receive_portion<R: Wait + Clock, H: HubCalls<N>, N: Opened>(
 /// Takes what arrived at the socket at a place among those that are marked, where it is to be received from now: why
 /// the worker ends with it, if it does.
 #[tactic(auto, using(crate::proofs::WorkLemmas::worked_none))]
-fn receive_at<R: Wait + Clock, H: HubCalls<N>, N: Opened>(
+fn receive_at<R: Wait + Clock, H: HubCalls<Global, N>, N: Opened>(
     rt: &R,
     worker: &mut Worker<'_, '_, H, N>,
     place: usize,
@@ -201,7 +200,7 @@ fn receive_at<R: Wait + Clock, H: HubCalls<N>, N: Opened>(
 }
 
 /// Takes what arrived at the sockets that are marked: why the worker ends with it, if it does.
-fn receive_all<R: Wait + Clock, H: HubCalls<N>, N: Opened>(
+fn receive_all<R: Wait + Clock, H: HubCalls<Global, N>, N: Opened>(
     rt: &R,
     worker: &mut Worker<'_, '_, H, N>,
 ) -> Option<ExitReason>
@@ -219,7 +218,7 @@ fn receive_all<R: Wait + Clock, H: HubCalls<N>, N: Opened>(
 }
 
 /// Does one round over the sockets. Returns why the worker ends with it, if it does.
-fn round<R: Wait + Clock, H: HubCalls<N>, N: Opened>(
+fn round<R: Wait + Clock, H: HubCalls<Global, N>, N: Opened>(
     rt: &R,
     worker: &mut Worker<'_, '_, H, N>,
 ) -> Option<ExitReason>
@@ -228,7 +227,7 @@ fn round<R: Wait + Clock, H: HubCalls<N>, N: Opened>(
         (at_work worker.new.context.seat worker.new.context.counting worker.new.context.outgoing) }
 {
     wait(rt, worker);
-    if worker.context.shared.is_over() {
+    if worker.context.epoch.is_over() {
         return Some(ExitReason::Stopped);
     }
     worker.context.look_at_clock(rt);
@@ -241,7 +240,7 @@ fn round<R: Wait + Clock, H: HubCalls<N>, N: Opened>(
 }
 
 /// Hands on and takes over the rest of its jobs.
-fn end_jobs<R: Wait, H: HubCalls<N>, N: Opened>(rt: &R, worker: &mut Worker<'_, '_, H, N>)
+fn end_jobs<R: Wait, H: HubCalls<Global, N>, N: Opened>(rt: &R, worker: &mut Worker<'_, '_, H, N>)
     ensures worked { HasWorked N.opening
         (at_work worker.old.context.seat worker.old.context.counting worker.old.context.outgoing)
         (at_work worker.new.context.seat worker.new.context.counting worker.new.context.outgoing) }
@@ -250,7 +249,7 @@ fn end_jobs<R: Wait, H: HubCalls<N>, N: Opened>(rt: &R, worker: &mut Worker<'_, 
     worker.context.end_jobs(rt, &mut worker.jobs);
 }
 
-impl<H: HubCalls<N>, N: Opened> Worker<'_, '_, H, N> {
+impl<H: HubCalls<Global, N>, N: Opened> Worker<'_, '_, H, N> {
     /// Gives back what its context does.
     fn leave(self, ending: ExitReason) -> WorkerResult<N>
         requires { HoldsNone self.jobs.for_others.items (λ q. q.items) }
@@ -275,7 +274,7 @@ impl<H: HubCalls<N>, N: Opened> Worker<'_, '_, H, N> {
 }
 
 /// Receives from sockets until the server ends.
-pub fn receive_on<R: Wait + Clock, H: HubCalls<N>, N: Opened>(
+pub fn receive_on<R: Wait + Clock, H: HubCalls<Global, N>, N: Opened>(
     rt: &R,
     mut worker: Worker<'_, '_, H, N>,
 ) -> WorkerResult<N>

@@ -1,6 +1,7 @@
 //! The cause why a worker ended, and what it gives back.
 
-ghost use Rattle.std.specs.Prelude.{◌≡◌, ◌⊎◌, ◌↔◌, IsTrue};
+ghost use Rattle.std.specs.Prelude.{◌≡◌, ◌⊎◌, ◌↔◌, Contains, IsTrue};
+ghost use Rattle.roam_workers.specs.Endings.{endings_of};
 
 use crate::job_counts::JobCounts;
 use crate::rests::Rests;
@@ -35,25 +36,20 @@ pub struct WorkerResult<N: Opened> {
     pub rests: Option<Rests>,
 }
 
-/// The parts that all workers gave back.
-#[derive(Drop)]
-pub struct Ended<N: Opened> {
-    /// True where one of them gave up a socket.
-    pub has_given_up: bool,
-    /// The fates of the datagrams that all received.
-    pub datagrams: Datagrams,
-    /// For each thread, how many jobs it handed on to each queue, and took over from there.
-    pub jobs: Vec<Vec<JobCounts>>,
-    pub seats: Vec<Seat<Global, N>>,
-    /// The packets of each that still wait, in the order of the workers; the timer's last.
-    pub outboxes: Vec<Outbox<Global>>,
-    /// The home servers that do not answer, as it was told; none where the timer didn't run.
-    pub rests: Option<Rests>,
-}
-
-/// Returns whether a worker gave up a socket, after one more has ended.
-pub fn has_given_up_after(has_given_up: bool, ending: ExitReason) -> bool
+/// Returns whether a thread gave up a socket, after one more has ended.
+fn has_given_up_after(has_given_up: bool, ending: ExitReason) -> bool
     ensures { IsTrue result ↔ (IsTrue has_given_up ⊎ (ending ≡ ExitReason.GaveUp)) }
 {
     has_given_up || ending == ExitReason::GaveUp
+}
+
+/// Returns whether one of the threads that have ended gave up a socket.
+pub fn has_given_up<N: Opened>(ends: &[WorkerResult<N>]) -> bool
+    ensures { IsTrue result ↔ Contains (endings_of ends.now) ExitReason.GaveUp }
+{
+    let mut is_one = false;
+    for end in ends {
+        is_one = has_given_up_after(is_one, end.ending);
+    }
+    is_one
 }

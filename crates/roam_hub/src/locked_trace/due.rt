@@ -6,9 +6,8 @@ ghost use Rattle.roam_shard.specs.Turns.{NothingDue};
 ghost use Rattle.roam_history.specs.Moments.{IsTickMoment};
 ghost use Rattle.roam_history.specs.Calls.{IsLook, Sees, TicksIfDue};
 
-use crate::call::Call;
 use crate::locked_trace::LockedTrace;
-use roam_history::{HubFault, Opened, Seat, Ticked, moment_of_tick};
+use roam_history::{Call, HubFault, Opened, Seat, Ticked, moment_of_tick};
 use std::alloc::Allocator;
 use std::sync::Wait;
 

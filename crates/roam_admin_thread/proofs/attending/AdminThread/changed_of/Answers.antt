@@ -8,4 +8,4 @@ use Rattle.roam_admin_thread.proofs.attending.AdminThread.changed_of.Goals as go
 pub returns-in-Ok : goal.returns-in-Ok
 returns-in-Ok g c =
     subst (λ (x : ConfigView). AreChanged x.peers (shown c.args.next.now).peers c.in-Ok.changed.items)
-    c.args.self.now.shared.now.same (rw (← c.as_slice.ensures.value, ← c.as_slice-2.ensures.value) c.in-Ok.ensures)
+    c.args.self.now.epoch.now.same (rw (← c.as_slice.ensures.value, ← c.as_slice-2.ensures.value) c.in-Ok.ensures)

@@ -1,4 +1,5 @@
-//! The calls of threads to a hub.
+//! The calls of threads to a hub. They are stated here, below the hub and below the threads: so what is proved of threads
+//! doesn't hold the layout of its locks.
 
 ghost use Rattle.std.specs.Prelude.{◌≡◌, ◌≢◌, ◌≤◌, ◌%◌, ◌↔◌, IfOk, IfErr, IfSome, IsErrOf, OnErr, OnOk};
 ghost use Rattle.roam_conf.specs.Shown.{shown};
@@ -9,54 +10,60 @@ ghost use Rattle.roam_history.specs.Calls.{AreGone, Calls, IsLook, Sees, TicksIf
 ghost use Rattle.roam_history.specs.Looks.{StandsThen, WouldLose};
 ghost use Rattle.roam_history.specs.Written.{BeginsRealm, SavesThen};
 
+use crate::answered::{Answered, Refused, Ticked};
+use crate::call::Call;
+use crate::fault::HubFault;
+use crate::gate::Gate;
+use crate::opened::Opened;
+use crate::seat::Seat;
 use roam_admission::Job;
-use roam_conf::{Config, ExchangeLines};
-use roam_history::{Answered, Gauges, HubFault, Opened, Refused, Seat, Ticked};
+use roam_conf::Config;
 use roam_migrate::Loss;
+use roam_realm::Gauges;
 use roam_sessions::Writing;
 use roam_shard::Step;
 use roam_wire::NoMemory;
-use std::alloc::{AllocError, Global};
+use std::alloc::{AllocError, Allocator};
 use std::sync::Wait;
 
-/// The number of sessions that are written while a shard waits.
-pub const SESSIONS_AT_ONCE: usize = 256;
-
 /// The calls of threads to a hub, of which `N` says in proofs how it opened. Each call waits for the lock of one shard.
-pub trait HubCalls<N: Opened> {
-    /// Gives a job to the shard of its realm at a moment, in milliseconds. With the answer comes what happened by the
-    /// job, with the octets of its request where these lines tell of it. The seat counts the call.
+pub trait HubCalls<A: Allocator, N: Opened> {
+    /// Gives a job to the shard of its realm, at the call's moment. The job's octets go into the stored step, so nothing
+    /// is copied but what is answered. With the answer comes what happened by the job, with the octets of its request
+    /// where the call's lines tell of it. The seat counts the call.
     ///
     /// # Errors
     ///
     /// `Misplaced`; `TraceFull` just where as many steps of the shard are stored as its trace can hold; `NoMemory`.
     /// Nothing is recorded then, and the job comes back as it was.
-    fn answer<R: Wait>(
+    fn answer<R: Wait, G: Gate>(
         &self,
-        rt: &R,
-        moment: u64,
-        lines: ExchangeLines,
-        seat: &mut Seat<Global, N>,
-        job: Job<Global>,
-    ) -> Result<Answered<Global>, Refused<Global>>
+        call: Call<'_, R, G>,
+        seat: &mut Seat<A, N>,
+        job: Job<A>,
+    ) -> Result<Answered<A>, Refused<A>>
         requires { IsEvent N.opening.config (shown_job job) }
-        ensures { Calls N.opening lines (job.realm % N.opening.config.shards) moment (shown_job job)
-            seat.old seat.new result };
+        ensures { Calls N.opening call.entry.lines (job.realm % N.opening.config.shards) call.entry.moment
+            (shown_job job) seat.old seat.new result };
 
-    /// Ticks a shard where something is due there at a moment. The seat counts a tick.
+    /// Does a tick of a shard where something is due in it at the call's moment, and makes no receipt. Returns `None`
+    /// where nothing is due: nothing is stored then, and no memory is wanted. With the answer comes what became of
+    /// each request that was due and waited, in order. The seat counts a tick.
+    ///
+    /// Where many entries are due, the tick's moment is an earlier one, at which few were, or the first at which any
+    /// was; only what has been due for long is worked off at once. The caller asks again until no more is due:
+    /// between two calls others have the lock.
     ///
     /// # Errors
     ///
     /// `NoShard` just where there is no such shard, and as for `answer`. Nothing is recorded then.
-    fn tick_if_due<R: Wait>(
+    fn tick_if_due<R: Wait, G: Gate>(
         &self,
-        rt: &R,
-        moment: u64,
-        lines: ExchangeLines,
-        seat: &mut Seat<Global, N>,
+        call: Call<'_, R, G>,
+        seat: &mut Seat<A, N>,
         shard: u16,
-    ) -> Result<Option<Ticked<Global>>, HubFault>
-        ensures tick { TicksIfDue N.opening lines shard moment seat.old seat.new result }
+    ) -> Result<Option<Ticked<A>>, HubFault>
+        ensures tick { TicksIfDue N.opening call.entry.lines shard call.entry.moment seat.old seat.new result }
         ensures no_shard { IsErrOf result HubFault.NoShard ↔ N.opening.config.shards ≤ shard };
 
     /// Returns whether anything of a shard is due at a moment in milliseconds, as it stands. Records nothing, and
@@ -69,7 +76,7 @@ pub trait HubCalls<N: Opened> {
     fn is_due<R: Wait>(
         &self,
         rt: &R,
-        seat: &mut Seat<Global, N>,
+        seat: &mut Seat<A, N>,
         now: u64,
         shard: u16,
     ) -> Result<bool, HubFault>
@@ -80,8 +87,8 @@ pub trait HubCalls<N: Opened> {
         ensures causes { IfErr result (λ f. f ≢ HubFault.TraceFull) }
         ensures no_shard { IsErrOf result HubFault.NoShard ↔ N.opening.config.shards ≤ shard };
 
-    /// Lets go of the stored steps of a shard: takes them out, and gives them back. The history goes on, and the seat
-    /// counts it. Takes no memory, and a time that doesn't grow with the steps.
+    /// Lets go of the stored steps of a shard: takes them out, and gives them back. All else of the shard stays as it
+    /// is, and the history goes on. The seat counts it. Takes no memory, and a time that doesn't grow with the steps.
     ///
     /// # Errors
     ///
@@ -89,9 +96,9 @@ pub trait HubCalls<N: Opened> {
     fn let_go<R: Wait>(
         &self,
         rt: &R,
-        seat: &mut Seat<Global, N>,
+        seat: &mut Seat<A, N>,
         shard: u16,
-    ) -> Result<Vec<Step<Global>>, HubFault>
+    ) -> Result<Vec<Step<A>, A>, HubFault>
         ensures gone { IfOk result (λ v. AreGone N.opening shard seat.old seat.new v.items) }
         ensures seen { Sees shard seat.old seat.new }
         ensures err { OnErr result (seat.new ≡ seat.old) }
@@ -100,7 +107,7 @@ pub trait HubCalls<N: Opened> {
     /// Returns how a realm stands, in numbers, where its shard's history ends now: no earlier than the seat has seen
     /// it. None where the realm isn't configured, or the lock holds another shard's trace. Records nothing, and takes
     /// no memory.
-    fn look<R: Wait>(&self, rt: &R, seat: &Seat<Global, N>, realm: u16) -> Option<Gauges>
+    fn look<R: Wait>(&self, rt: &R, seat: &Seat<A, N>, realm: u16) -> Option<Gauges>
         ensures { IfSome result (StandsThen N.opening realm seat.now) };
 
     /// Returns what goes of a realm where another configuration is followed, in which these peers have other tables:
@@ -108,7 +115,7 @@ pub trait HubCalls<N: Opened> {
     fn losses<R: Wait>(
         &self,
         rt: &R,
-        seat: &Seat<Global, N>,
+        seat: &Seat<A, N>,
         realm: u16,
         next: &Config,
         changed: &[u16],
@@ -125,10 +132,10 @@ pub trait HubCalls<N: Opened> {
     fn begin_saving<R: Wait>(
         &self,
         rt: &R,
-        seat: &Seat<Global, N>,
+        seat: &Seat<A, N>,
         realm: u16,
-        tickets: &mut Vec<u64>,
-        writing: &mut Writing<Global>,
+        tickets: &mut Vec<u64, A>,
+        writing: &mut Writing<A>,
     ) -> Result<(), NoMemory>
         ensures { OnOk result (BeginsRealm N.opening realm writing.old writing.new) };
 
@@ -140,10 +147,10 @@ pub trait HubCalls<N: Opened> {
     fn save<R: Wait>(
         &self,
         rt: &R,
-        seat: &Seat<Global, N>,
+        seat: &Seat<A, N>,
         realm: u16,
         tickets: &[u64],
-        writing: &mut Writing<Global>,
+        writing: &mut Writing<A>,
     ) -> Result<(), AllocError>
         ensures { OnOk result (SavesThen N.opening realm seat.now writing.old writing.new) };
 }
