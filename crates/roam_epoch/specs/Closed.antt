@@ -9,7 +9,7 @@ use Rattle.roam_history.specs.HubOpening.{HubOpening}
 use Rattle.roam_hub.specs.Histories.{AreHistories}
 use Rattle.roam_hub.specs.Pausing.{ArePaused, StandAtEnd}
 use Rattle.roam_sockets.specs.Faults.{IsAfterBinding}
-use Rattle.roam_sockets.specs.declared.fault.ServeFault.{ServeFault}
+use Rattle.roam_sockets.specs.declared.fault.ServeFault.TheVariants as faults
 use Rattle.roam_admin_thread.specs.declared.epoch_end.EpochEnd.{EpochEnd}
 use Rattle.roam_admin_thread.specs.declared.epoch_end.EpochEnd.TheVariants as ends
 use Rattle.std.specs.declared.alloc.Global.{Global}
@@ -41,7 +41,7 @@ MayGoOn config (ends.Follows next) = MayFollow config (shown next.configured.con
 MayGoOn config (ends.Failed fault) = IsAfterBinding fault
 
 -- the end of an epoch over these shards: those that are handed on stand where histories end that were audited. Or
--- nothing was done over them, and they come back as they were: then no thread was started
+-- the hub couldn't be opened for want of memory, nothing was done over them, and they come back as they were
 abbrev pub HasEnded : HubOpening → List (Paused Global) → EpochEnd → List (Paused Global) → Type 0
 HasEnded o before end after = EndSomewhere o after
-    ⊎ ((after ≡ before) × (fault : ServeFault) × (end ≡ ends.Failed fault))
+    ⊎ ((after ≡ before) × (end ≡ ends.Failed faults.Memory))

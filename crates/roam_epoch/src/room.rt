@@ -47,8 +47,8 @@ fn pause_and_queues<'c, N: Opened>(
     }
 }
 
-/// Takes room for so many threads that are joined: for their handles, what they give back, their outboxes, and the seats
-/// of them and of this thread.
+/// Takes room for so many threads that are joined: for their handles, what they give back, their outboxes, and the
+/// seats of them and of this thread.
 fn lists<N: Opened>(
     alloc: Global,
     threads: usize,

@@ -22,9 +22,9 @@ use std::mem;
 use std::sync::atomic::AtomicBool;
 use std::thread::Parker;
 
-/// Opens a hub over the shards that are carried over, which stand under its configuration. Returns it with the seat that
-/// it opens with, and room for what comes back of it. Where memory is wanting, what is carried over comes back, with the
-/// shards as they were.
+/// Opens a hub over the shards that are carried over, which stand under its configuration. Returns it with the seat
+/// that it opens with, and room for what comes back of it. Where memory is wanting, what is carried over comes back,
+/// with the shards as they were.
 fn open_over<'c, N: Opened>(
     alloc: Global,
     configured: &'c Configured,

@@ -28,9 +28,9 @@ use std::sync::Wait;
 
 /// The calls of threads to a hub, of which `N` says in proofs how it opened. Each call waits for the lock of one shard.
 pub trait HubCalls<A: Allocator, N: Opened> {
-    /// Gives a job to the shard of its realm, at the call's moment. The job's octets go into the stored step, so nothing
-    /// is copied but what is answered. With the answer comes what happened by the job, with the octets of its request
-    /// where the call's lines tell of it. The seat counts the call.
+    /// Gives a job to the shard of its realm, at the call's moment. The job's octets go into the stored step, so
+    /// nothing is copied but what is answered. With the answer comes what happened by the job, with the octets of its
+    /// request where the call's lines tell of it. The seat counts the call.
     ///
     /// # Errors
     ///

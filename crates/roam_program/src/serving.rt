@@ -56,25 +56,6 @@ fn remove<R: Files>(rt: &R, socket: &Option<ControlSocket>, settings: &Settings)
     }
 }
 
-/// Serves a configuration. What the server does is counted where somebody may ask for the counts.
-fn serve_watched<R: Files + AllocGlobal + KeepsFiles + Host>(
-    rt: &R,
-    config: Config,
-    watch: Option<Watch<'_>>,
-    manner: Manner,
-    milliseconds: Option<u64>,
-    source: &mut Reread<'_, R>,
-) -> Result<(), ServeFault>
-    ensures { IfErr result (IsFaultOf (shown config)) }
-{
-    let options = ServeOptions {
-        watch,
-        manner,
-        milliseconds,
-    };
-    serve(rt, rt.alloc(), config, options, source)
-}
-
 /// Serves a configuration, once there is the control socket that is wanted. The server counts what it does, since
 /// somebody may ask for the counts.
 fn serve_asked<R: Files + AllocGlobal + KeepsFiles + Host>(
@@ -95,7 +76,12 @@ fn serve_asked<R: Files + AllocGlobal + KeepsFiles + Host>(
                 control: socket.as_ref(),
                 build: Build::Roam,
             };
-            let ended = serve_watched(rt, config, Some(watch), manner, milliseconds, source);
+            let options = ServeOptions {
+                watch: Some(watch),
+                manner,
+                milliseconds,
+            };
+            let ended = serve(rt, rt.alloc(), config, options, source);
             remove(rt, &socket, settings);
             ended
         }
@@ -128,7 +114,12 @@ fn serve_by<R: Files + AllocGlobal + KeepsFiles + Host>(
         keeper: rt.keeper(),
     };
     if settings.metrics.is_none() && settings.control.is_none() {
-        serve_watched(rt, config, None, manner, milliseconds, &mut source)
+        let options = ServeOptions {
+            watch: None,
+            manner,
+            milliseconds,
+        };
+        serve(rt, rt.alloc(), config, options, &mut source)
     } else {
         serve_asked(rt, config, manner, milliseconds, &mut source)
     }

@@ -1,5 +1,4 @@
 -- Nothing was done, or another configuration follows.
-use Rattle.std.proofs.Common.{subst, sym}
 use Rattle.roam_server.proofs.ServedLemmas.{on-nothing}
 use Rattle.roam_server.proofs.serving.after_epoch.Goals as goal
 
