@@ -1,6 +1,6 @@
 //! The things that an epoch's threads gave back.
 
-ghost use Rattle.std.specs.Prelude.{◌≡◌, ⊥, IfErr, IfOk, OnOk, Contains, length};
+ghost use Rattle.std.specs.Prelude.{◌≡◌, IfErr, IfOk, OnOk, Contains, length};
 ghost use Rattle.roam_counters.specs.Datagrams.{both, with_all};
 ghost use Rattle.roam_workers.specs.JobCounts.{AreAllTaken};
 ghost use Rattle.roam_workers.specs.Endings.{datagrams_of, endings_of};

@@ -1,5 +1,5 @@
 -- Whether a worker gave up a socket, after one more has ended.
-use Rattle.std.proofs.Common.{rules, arith, ap, ◌≡◌, ◌⊎◌, ◌↔◌, ◌∙◌, ℕ, ◌+◌, ◌<◌, inl, inr, Bool, false, IsTrue, List, [], ◌∷◌, ◌++◌, append-nil, length, slice_index_or, subst, sym, take}
+use Rattle.std.proofs.Common.{rules, ap, ◌≡◌, ◌⊎◌, ◌↔◌, ◌∙◌, ℕ, ◌+◌, ◌<◌, inl, inr, Bool, false, IsTrue, List, [], ◌∷◌, ◌++◌, length, slice_index_or, subst, take}
 use Rattle.std.specs.Prelude.{Contains}
 use Rattle.std.proofs.lemmas.List.Elements.{Contains-append_left, Contains-push, Contains-push_cases}
 use Rattle.std.proofs.lemmas.List.{map-append, take_more}
@@ -32,8 +32,3 @@ pub endings-more : {N : Type 0} (ends : List (WorkerResult N)) (i : ℕ) (d : Wo
     → endings_of (take (i + 1) ends) ≡ endings_of (take i ends) ++ (slice_index_or ends i d).ending ∷ []
 endings-more ends i d within =
     ap endings_of (take_more ends i d within) ∙ map-append (λ e. e.ending) (take i ends) (slice_index_or ends i d ∷ [])
-
--- where no value is left, all were seen
-pub all-seen : {X : Type 0} (seen rest all : List X) → length rest ≡ 0 → seen ++ rest ≡ all → seen ≡ all
-all-seen seen [] all none is = sym (append-nil seen) ∙ is
-all-seen seen (x ∷ rest) all none is = absurd (omega (arith, none))
