@@ -45,20 +45,7 @@ pub struct EpochParts {
 // By hand, so that a proof sees one call wherever it ends, and not each of its parts.
 impl Drop for EpochParts {
     fn drop(self) {
-        let Self {
-            wakers,
-            timer,
-            workers,
-            logger,
-            rests,
-            blanks,
-        } = self;
-        drop(wakers);
-        drop(timer);
-        drop(workers);
-        drop(logger);
-        drop(rests);
-        drop(blanks);
+        drop(self.into_parts());
     }
 }
 
@@ -180,6 +167,35 @@ impl EpochParts {
             rests,
             blanks,
         })
+    }
+
+    /// Takes them apart.
+    pub fn into_parts(
+        self,
+    ) -> (
+        Vec<Waker>,
+        ThreadParts,
+        Vec<ThreadParts>,
+        Logger,
+        Rests,
+        Blanks<Global>,
+    )
+        ensures wakers { result.0 ≡ self.wakers }
+        ensures timer { result.1 ≡ self.timer }
+        ensures workers { result.2 ≡ self.workers }
+        ensures logger { result.3 ≡ self.logger }
+        ensures rests { result.4 ≡ self.rests }
+        ensures blanks { result.5 ≡ self.blanks }
+    {
+        let Self {
+            wakers,
+            timer,
+            workers,
+            logger,
+            rests,
+            blanks,
+        } = self;
+        (wakers, timer, workers, logger, rests, blanks)
     }
 }
 

@@ -86,7 +86,7 @@ pub fn run_threads<
     thread::scope(
         thread::scope_env(),
         rt,
-        move |scope| -> (EpochEnd, EpochRoom<'c, N>)
+        move |scope| -> (EpochEnd, EpochRoom<'_, N>)
             ensures { MayGoOn N.opening.config result.0 }
         { run_within(scope, admin_thread, threads, room) },
     )

@@ -136,14 +136,7 @@ pub fn serve_epoch<N: Opened + Send + Sync, R: Host, S: Source>(
     ensures err { IfErr result IsAfterBinding }
 {
     let alloc = server.alloc;
-    let EpochParts {
-        wakers,
-        timer,
-        workers,
-        logger,
-        rests,
-        blanks,
-    } = parts;
+    let (wakers, timer, workers, logger, rests, blanks) = parts.into_parts();
     match open_over::<N>(alloc, configured, carry, blanks) {
         Ok((hub, seat, mut room)) => {
             let crew = Crew {
