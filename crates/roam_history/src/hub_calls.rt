@@ -13,7 +13,6 @@ ghost use Rattle.roam_history.specs.Written.{BeginsRealm, SavesThen};
 use crate::answered::{Answered, Refused, Ticked};
 use crate::call::Call;
 use crate::fault::HubFault;
-use crate::gate::Gate;
 use crate::opened::Opened;
 use crate::seat::Seat;
 use roam_admission::Job;
@@ -36,14 +35,15 @@ pub trait HubCalls<A: Allocator, N: Opened> {
     ///
     /// `Misplaced`; `TraceFull` just where as many steps of the shard are stored as its trace can hold; `NoMemory`.
     /// Nothing is recorded then, and the job comes back as it was.
-    fn answer<R: Wait, G: Gate>(
+    fn answer<R: Wait>(
         &self,
-        call: Call<'_, R, G>,
+        rt: &R,
+        call: Call,
         seat: &mut Seat<A, N>,
         job: Job<A>,
     ) -> Result<Answered<A>, Refused<A>>
         requires { IsEvent N.opening.config (shown_job job) }
-        ensures { Calls N.opening call.entry.lines (job.realm % N.opening.config.shards) call.entry.moment
+        ensures { Calls N.opening call.lines (job.realm % N.opening.config.shards) call.moment
             (shown_job job) seat.old seat.new result };
 
     /// Does a tick of a shard where something is due in it at the call's moment, and makes no receipt. Returns `None`
@@ -57,13 +57,14 @@ pub trait HubCalls<A: Allocator, N: Opened> {
     /// # Errors
     ///
     /// `NoShard` just where there is no such shard, and as for `answer`. Nothing is recorded then.
-    fn tick_if_due<R: Wait, G: Gate>(
+    fn tick_if_due<R: Wait>(
         &self,
-        call: Call<'_, R, G>,
+        rt: &R,
+        call: Call,
         seat: &mut Seat<A, N>,
         shard: u16,
     ) -> Result<Option<Ticked<A>>, HubFault>
-        ensures tick { TicksIfDue N.opening call.entry.lines shard call.entry.moment seat.old seat.new result }
+        ensures tick { TicksIfDue N.opening call.lines shard call.moment seat.old seat.new result }
         ensures no_shard { IsErrOf result HubFault.NoShard ↔ N.opening.config.shards ≤ shard };
 
     /// Returns whether anything of a shard is due at a moment in milliseconds, as it stands. Records nothing, and

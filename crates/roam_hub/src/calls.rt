@@ -4,7 +4,7 @@ use crate::hub::Hub;
 use crate::locking::wait_for;
 use roam_admission::Job;
 use roam_conf::Config;
-use roam_history::{Answered, Call, Gate, HubCalls, HubFault, Opened, Refused, Seat, Ticked};
+use roam_history::{Answered, Call, HubCalls, HubFault, Opened, Refused, Seat, Ticked};
 use roam_migrate::Loss;
 use roam_realm::Gauges;
 use roam_sessions::Writing;
@@ -14,27 +14,26 @@ use std::alloc::{AllocError, Allocator};
 use std::sync::Wait;
 
 impl<'c, A: Allocator + Copy, N: Opened> HubCalls<A, N> for Hub<'c, A, N> {
-    fn answer<R: Wait, G: Gate>(
+    fn answer<R: Wait>(
         &self,
-        call: Call<'_, R, G>,
+        rt: &R,
+        call: Call,
         seat: &mut Seat<A, N>,
         job: Job<A>,
     ) -> Result<Answered<A>, Refused<A>> {
         let shard = self.config.shard_of(job.realm);
-        let mut kept = wait_for(call.rt, &self.locks[usize::from(shard)]);
-        call.gate.inside(shard);
-        kept.take(call, seat, shard, job)
+        let mut kept = wait_for(rt, &self.locks[usize::from(shard)]);
+        kept.take(rt, call, seat, shard, job)
     }
 
-    fn tick_if_due<R: Wait, G: Gate>(
+    fn tick_if_due<R: Wait>(
         &self,
-        call: Call<'_, R, G>,
+        rt: &R,
+        call: Call,
         seat: &mut Seat<A, N>,
         shard: u16,
     ) -> Result<Option<Ticked<A>>, HubFault> {
-        let mut kept = self.lock(call.rt, shard)?;
-        call.gate.inside(shard);
-        kept.tick_if_due(call, seat, shard)
+        self.lock(rt, shard)?.tick_if_due(rt, call, seat, shard)
     }
 
     fn is_due<R: Wait>(

@@ -12,12 +12,13 @@ ghost use Rattle.roam_history.specs.Seats.{front_of};
 ghost use Rattle.roam_history.specs.Shown.{shown_step};
 ghost use Rattle.roam_history.specs.Calls.{IsCall, IsFull, Sees, answered_step};
 
+use crate::gate::Gate;
 use crate::locked_trace::LockedTrace;
 use crate::locking::wait_for;
 use roam_admission::Job;
 use roam_conf::{Config, ExchangeLines};
 use roam_core::Event;
-use roam_history::{Answered, Call, Gate, HubCalls, HubFault, Opened, Receipt, Seat};
+use roam_history::{Answered, Call, HubFault, Opened, Receipt, Seat};
 use roam_shard::{copy_of, job_event};
 use std::alloc::Allocator;
 use std::sync::{Mutex, MutexGuard, Wait};
@@ -82,12 +83,13 @@ impl<'c, A: Allocator + Copy, N: Opened> Hub<'c, A, N> {
         let event = job_event(self.alloc, now, job)?;
         let copy = copy_of(self.alloc, job)?;
         let call = Call {
-            rt,
-            gate,
             moment: now,
             lines: ExchangeLines::OfNone,
         };
-        match self.answer(call, seat, copy) {
+        let shard = self.config.shard_of(job.realm);
+        let mut kept = wait_for(rt, &self.locks[usize::from(shard)]);
+        gate.inside(shard);
+        match kept.take(rt, call, seat, shard, copy) {
             Ok(answered) => Ok(receipt_of(seat, event, answered)),
             Err(refused) => Err(refused.fault),
         }
@@ -122,12 +124,10 @@ impl<'c, A: Allocator + Copy, N: Opened> Hub<'c, A, N> {
         let mut kept = self.lock(rt, shard)?;
         gate.inside(shard);
         let call = Call {
-            rt,
-            gate,
             moment: now,
             lines: ExchangeLines::OfNone,
         };
-        let answered = kept.tick(call, seat, shard)?;
+        let answered = kept.tick(rt, call, seat, shard)?;
         Ok(receipt_of(seat, Event::Tick { now, shard }, answered))
     }
 }

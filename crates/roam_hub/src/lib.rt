@@ -61,6 +61,7 @@
 mod bounds;
 mod calls;
 mod closing;
+mod gate;
 mod hub;
 mod laws;
 mod locked_trace;
@@ -71,6 +72,7 @@ mod pausing;
 mod writing;
 
 pub use bounds::{bounded_in_histories, bounded_waits_in_histories, waits_in_histories};
+pub use gate::{Gate, Open};
 pub use hub::Hub;
 pub use laws::{
     draws_apart_over_changes, lives_over_changes, provenance_in_histories, provenance_over_changes,
@@ -80,8 +82,8 @@ pub use pause_room::PauseRoom;
 pub use pausing::PausedHub;
 pub use roam_exchange::{Became, DueHappening, Happening, LeftConversation, Waited};
 pub use roam_history::{
-    Answered, AuditFault, Audited, Blanks, Call, Front, Gate, HubCalls, HubFault, LATE, MOST, Open,
-    Opened, Receipt, Refused, Report, Seat, Ticked, split,
+    Answered, AuditFault, Audited, Blanks, Call, Front, HubCalls, HubFault, LATE, MOST, Opened,
+    Receipt, Refused, Report, Seat, Ticked, split,
 };
 pub use roam_pending::{Key, Requester};
 pub use roam_realm::{Gauges, Rest, SERVER_LINKS};

@@ -16,7 +16,7 @@ use crate::context::WorkerContext;
 use roam_admission::Job;
 use roam_conf::ExchangeLines;
 use roam_counters::CountedTurn;
-use roam_history::{Answered, Call, HubCalls, HubFault, Open, Opened, Refused};
+use roam_history::{Answered, Call, HubCalls, HubFault, Opened, Refused};
 use roam_wire::Refusal;
 use std::alloc::Global;
 use std::sync::Wait;
@@ -113,12 +113,10 @@ impl<H: HubCalls<Global, N>, N: Opened> WorkerContext<'_, '_, H, N> {
         let mut is_second = false;
         for _ in rt.forever() {
             let call = Call {
-                rt,
-                gate: &Open,
                 moment: self.now,
                 lines,
             };
-            match epoch.hub.answer(call, &mut self.seat, job) {
+            match epoch.hub.answer(rt, call, &mut self.seat, job) {
                 Ok(answered) => return Ok(answered),
                 Err(Refused { fault, job: same }) => {
                     if !self.remedy(rt, shard, fault, is_second) {

@@ -14,7 +14,7 @@ use crate::epoch::Epoch;
 use crate::junk::Junk;
 use crate::worker_result::{ExitReason, WorkerResult};
 use roam_counters::Datagrams;
-use roam_history::{Answered, Call, HubCalls, HubFault, Open, Opened, Seat, Ticked};
+use roam_history::{Answered, Call, HubCalls, HubFault, Opened, Seat, Ticked};
 use roam_log::Origin;
 use roam_logger::{Exchanges, Notices};
 use roam_outgoing::{Counting, Outgoing};
@@ -138,12 +138,10 @@ impl<H: HubCalls<Global, N>, N: Opened> WorkerContext<'_, '_, H, N> {
         let mut is_second = false;
         for _ in rt.forever() {
             let call = Call {
-                rt,
-                gate: &Open,
                 moment: self.now,
                 lines: epoch.told_exchanges,
             };
-            match epoch.hub.tick_if_due(call, &mut self.seat, shard) {
+            match epoch.hub.tick_if_due(rt, call, &mut self.seat, shard) {
                 Ok(Some(ticked)) => return self.ticked(rt, shard, ticked),
                 Ok(None) => return false,
                 Err(fault) => {
