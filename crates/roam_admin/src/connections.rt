@@ -72,14 +72,14 @@ impl Listener for UnixListener {
 
 /// The place at which connections are taken, and the descriptor in hand.
 #[derive(Drop)]
-struct Entrance<'l, L> {
+struct Entrance<'a, 'l, L> {
     alloc: Global,
-    admin: &'l Admin,
+    admin: &'a Admin,
     listener: &'l L,
     spare: Spare,
 }
 
-impl<L: Listener> Entrance<'_, L> {
+impl<L: Listener> Entrance<'_, '_, L> {
     /// Takes the next connection: with the descriptor in hand, where there is no further one.
     fn next(&mut self) -> io::Result<L::Stream> {
         match self.listener.next() {
@@ -135,7 +135,7 @@ fn hindrance(error: io::Error) -> Option<io::Error> {
 /// took the descriptor in hand. Answers why none can be taken, where that is so.
 fn accept_all<R: RandomSource, L: Listener>(
     rt: &R,
-    entrance: &mut Entrance<'_, L>,
+    entrance: &mut Entrance<'_, '_, L>,
     open: &mut Vec<OpenConnection<L::Stream>>,
     now: u64,
 ) -> Option<io::Error> {

@@ -73,7 +73,8 @@ fn with_audited<N: Opened>(
 pub fn close_after<'c, R: Wait, N: Opened>(
     rt: &R,
     hub: Hub<'c, Global, N>,
-    room: EpochRoom<'c, N>,
+    pause: PauseRoom<'c, Global, N>,
+    room: EpochRoom<N>,
 ) -> Result<Carryover, ServeFault>
     ensures jobs { OnOk result (AreAllTaken (λ e. e.jobs.items) (length room.queues.items) room.ends.items) }
     ensures ends { IfOk result (λ carry. EndCounted N.opening room.carry.steps carry.steps carry.shards.items) }
@@ -82,7 +83,7 @@ pub fn close_after<'c, R: Wait, N: Opened>(
     ensures err { IfErr result IsAfterBinding }
 {
     match given_back(room) {
-        Ok((pause, seats, carry)) => match close_and_audit(rt, hub, pause, seats) {
+        Ok((seats, carry)) => match close_and_audit(rt, hub, pause, seats) {
             Ok((audited, shards)) => Ok(with_audited(carry, audited, shards)),
             Err(fault) => {
                 drop(carry);
@@ -91,6 +92,7 @@ pub fn close_after<'c, R: Wait, N: Opened>(
         },
         Err(fault) => {
             drop(hub);
+            drop(pause);
             Err(fault)
         }
     }

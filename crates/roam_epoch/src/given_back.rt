@@ -9,7 +9,7 @@ ghost use Rattle.roam_sockets.specs.Faults.{IsAfterBinding};
 
 use crate::carryover::Carryover;
 use crate::room::EpochRoom;
-use roam_hub::{Opened, PauseRoom, Seat};
+use roam_hub::{Opened, Seat};
 use roam_sockets::ServeFault;
 use roam_workers::{Rests, WorkerResult, audit_jobs, has_given_up};
 use std::alloc::Global;
@@ -76,20 +76,20 @@ fn gather<N: Opened>(
 }
 
 /// Audits the jobs between threads that have ended, none of which gave up a socket: of each queue as many were taken
-/// over as were handed on. Returns the memory with which the hub is paused, the seats of all threads, and what goes on:
-/// the outboxes are those that the threads gave back, and what became of their datagrams is added.
+/// over as were handed on. Returns the seats of all threads, and what goes on: the outboxes are those that the threads
+/// gave back, and what became of their datagrams is added.
 ///
 /// # Errors
 ///
 /// `Receive`, where a socket was given up; `Audit`, where a job was handed on that nobody took over, or that two did.
-pub fn given_back<'c, N: Opened>(
-    room: EpochRoom<'c, N>,
-) -> Result<(PauseRoom<'c, Global, N>, Vec<Seat<Global, N>>, Carryover), ServeFault>
+pub fn given_back<N: Opened>(
+    room: EpochRoom<N>,
+) -> Result<(Vec<Seat<Global, N>>, Carryover), ServeFault>
     ensures jobs { OnOk result (AreAllTaken (λ e. e.jobs.items) (length room.queues.items) room.ends.items) }
     ensures gave_up { OnOk result (Contains (endings_of room.ends.items) ending.GaveUp → ⊥) }
-    ensures datagrams { IfOk result (λ back. back.2.datagrams.counts
+    ensures datagrams { IfOk result (λ back. back.1.datagrams.counts
         ≡ with_all room.carry.datagrams.counts (datagrams_of room.ends.items)) }
-    ensures steps { IfOk result (λ back. back.2.steps ≡ room.carry.steps) }
+    ensures steps { IfOk result (λ back. back.1.steps ≡ room.carry.steps) }
     ensures err { IfErr result IsAfterBinding }
 {
     if has_given_up(room.ends.as_slice()) {
@@ -98,7 +98,6 @@ pub fn given_back<'c, N: Opened>(
     }
     let EpochRoom {
         mut carry,
-        pause,
         queues,
         handles,
         ends,
@@ -107,15 +106,9 @@ pub fn given_back<'c, N: Opened>(
     } = room;
     drop(handles);
     if !audit_jobs(queues, ends.as_slice()) {
-        drop((carry, pause, ends, seats, outboxes));
+        drop((carry, ends, seats, outboxes));
         return Err(ServeFault::Audit);
     }
     carry.outboxes = outboxes;
-    match gather(ends, seats, carry) {
-        Ok((seats, carry)) => Ok((pause, seats, carry)),
-        Err(fault) => {
-            drop(pause);
-            Err(fault)
-        }
-    }
+    gather(ends, seats, carry)
 }

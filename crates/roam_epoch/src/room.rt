@@ -1,24 +1,20 @@
-//! The memory for what comes back of an epoch's hub and of its threads.
+//! The memory for what comes back of an epoch's threads.
 
 ghost use Rattle.std.specs.Prelude.{◌≡◌, IfErr, IfOk, length};
-ghost use Rattle.roam_conf.specs.Shown.{shown};
 
 use crate::carryover::Carryover;
-use roam_conf::Config;
-use roam_hub::{Opened, PauseRoom, Seat};
+use roam_hub::{Opened, Seat};
 use roam_port::Outbox;
 use roam_workers::{LockedQueue, WorkerResult, make_queues};
 use std::alloc::{AllocError, Global};
 use std::sync::Wait;
 use std::thread::{JoinHandle, Threads};
 
-/// Room for all that comes back of an epoch's hub and of its threads, and what is carried over. It is taken before the
-/// hub opens, so that nothing is lost for want of memory.
+/// Room for all that comes back of an epoch's threads, and what is carried over. It is taken before the hub opens, so
+/// that nothing is lost for want of memory.
 #[derive(Drop)]
-pub struct EpochRoom<'c, N: Opened> {
+pub struct EpochRoom<N: Opened> {
     pub carry: Carryover,
-    /// The memory with which the hub is paused.
-    pub pause: PauseRoom<'c, Global, N>,
     /// The queue in which each worker finds the jobs that others received for its shard.
     pub queues: Vec<LockedQueue<N>>,
     /// For the handles of the workers and the timer, and for what they give back.
@@ -27,24 +23,6 @@ pub struct EpochRoom<'c, N: Opened> {
     /// For the seats of all threads.
     pub seats: Vec<Seat<Global, N>>,
     pub outboxes: Vec<Outbox<Global>>,
-}
-
-/// Takes the memory with which a hub is paused, and makes the queues of jobs between its workers.
-fn pause_and_queues<'c, N: Opened>(
-    alloc: Global,
-    config: &'c Config,
-) -> Result<(PauseRoom<'c, Global, N>, Vec<LockedQueue<N>>), AllocError>
-    requires { shown config.now ≡ N.opening.config }
-    ensures { IfOk result (λ r. length r.1.items ≡ config.now.top.shards) }
-{
-    let queues = make_queues(alloc, config.top.shards)?;
-    match PauseRoom::new(alloc, config) {
-        Ok(pause) => Ok((pause, queues)),
-        Err(_) => {
-            drop(queues);
-            Err(AllocError)
-        }
-    }
 }
 
 /// Takes room for so many threads that are joined: for their handles, what they give back, their outboxes, and the
@@ -68,26 +46,20 @@ fn lists<N: Opened>(
     Ok((handles, ends, seats, outboxes))
 }
 
-impl<'c, N: Opened> EpochRoom<'c, N> {
-    /// Takes room for an epoch of this configuration, to which this is carried over. Where memory is wanting it comes
-    /// back as it was.
-    pub fn new(
-        alloc: Global,
-        config: &'c Config,
-        carry: Carryover,
-    ) -> Result<EpochRoom<'c, N>, Carryover>
-        requires { shown config.now ≡ N.opening.config }
+impl<N: Opened> EpochRoom<N> {
+    /// Takes room for an epoch of so many shards, to which this is carried over. Where memory is wanting it comes back as
+    /// it was.
+    pub fn new(alloc: Global, shards: u16, carry: Carryover) -> Result<EpochRoom<N>, Carryover>
         ensures carry { IfOk result (λ room. room.carry ≡ carry) }
-        ensures queues { IfOk result (λ room. length room.queues.items ≡ config.now.top.shards) }
+        ensures queues { IfOk result (λ room. length room.queues.items ≡ shards) }
         ensures err { IfErr result (λ back. back ≡ carry) }
     {
-        let Ok((pause, queues)) = pause_and_queues::<N>(alloc, config) else {
+        let Ok(queues) = make_queues(alloc, shards) else {
             return Err(carry);
         };
-        match lists(alloc, usize::from(config.top.shards) + 1) {
+        match lists(alloc, usize::from(shards) + 1) {
             Ok((handles, ends, seats, outboxes)) => Ok(EpochRoom {
                 carry,
-                pause,
                 queues,
                 handles,
                 ends,
@@ -95,7 +67,6 @@ impl<'c, N: Opened> EpochRoom<'c, N> {
                 outboxes,
             }),
             Err(_) => {
-                drop(pause);
                 drop(queues);
                 Err(carry)
             }
@@ -108,14 +79,12 @@ impl<'c, N: Opened> EpochRoom<'c, N> {
     {
         let Self {
             carry,
-            pause,
             queues,
             handles,
             ends,
             seats,
             outboxes,
         } = self;
-        drop(pause);
         drop(queues);
         drop(handles);
         drop(ends);

@@ -44,14 +44,15 @@ fn run_within<
     S: Source,
 >(
     scope: &Scope<'s, E>,
-    admin_thread: AdminThread<'w, 'c, '_, R, H, N, S>,
-    threads: ReadyThreads<'w, 'c, H, N>,
-    room: EpochRoom<'c, N>,
-) -> (EpochEnd, EpochRoom<'c, N>)
+    run: (
+        AdminThread<'w, 'c, '_, R, H, N, S>,
+        ReadyThreads<'w, 'c, H, N>,
+        EpochRoom<N>,
+    ),
+) -> (EpochEnd, EpochRoom<N>)
     ensures { MayGoOn N.opening.config result.0 }
 {
-    let mut admin_thread = admin_thread;
-    let mut room = room;
+    let (mut admin_thread, threads, mut room) = run;
     let rt = admin_thread.rt;
     let epoch = admin_thread.epoch;
     let have_started = start_all(scope, rt, epoch, threads, &mut room.handles);
@@ -78,16 +79,17 @@ pub fn run_threads<
 >(
     admin_thread: AdminThread<'s, 'c, '_, R, H, N, S>,
     threads: ReadyThreads<'s, 'c, H, N>,
-    room: EpochRoom<'c, N>,
-) -> (EpochEnd, EpochRoom<'c, N>)
+    room: EpochRoom<N>,
+) -> (EpochEnd, EpochRoom<N>)
     ensures { MayGoOn N.opening.config result.0 }
 {
     let rt = admin_thread.rt;
+    let run = (admin_thread, threads, room);
     thread::scope(
         thread::scope_env(),
         rt,
-        move |scope| -> (EpochEnd, EpochRoom<'_, N>)
+        move |scope| -> (EpochEnd, EpochRoom<N>)
             ensures { MayGoOn N.opening.config result.0 }
-        { run_within(scope, admin_thread, threads, room) },
+        { run_within(scope, run) },
     )
 }

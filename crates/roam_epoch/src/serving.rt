@@ -14,7 +14,7 @@ use crate::room::EpochRoom;
 use crate::running::run_threads;
 use crate::server_parts::ServerParts;
 use roam_admin_thread::{AdminThread, Configured, EpochEnd, EpochParts, Host, Source};
-use roam_hub::{Blanks, Hub, Opened, Seat};
+use roam_hub::{Blanks, Hub, Opened, PauseRoom, Seat};
 use roam_sockets::ServeFault;
 use roam_workers::{Epoch, Rests, TimerRest};
 use std::alloc::Global;
@@ -23,29 +23,42 @@ use std::sync::atomic::AtomicBool;
 use std::thread::Parker;
 
 /// Opens a hub over the shards that are carried over, which stand under its configuration. Returns it with the seat
-/// that it opens with, and room for what comes back of it. Where memory is wanting, what is carried over comes back,
-/// with the shards as they were.
+/// that it opens with, the memory with which it is paused, and room for what comes back of its threads. Where memory is
+/// wanting, what is carried over comes back, with the shards as they were.
 fn open_over<'c, N: Opened>(
     alloc: Global,
     configured: &'c Configured,
     carry: Carryover,
     blanks: Blanks<Global>,
-) -> Result<(Hub<'c, Global, N>, Seat<Global, N>, EpochRoom<'c, N>), Carryover>
+) -> Result<
+    (
+        Hub<'c, Global, N>,
+        Seat<Global, N>,
+        PauseRoom<'c, Global, N>,
+        EpochRoom<N>,
+    ),
+    Carryover,
+>
     requires opening { N.opening ≡ opening_over (shown configured.now.config) carry.shards.items }
     requires books { N.books ≡ books_of blanks }
     requires blanks { count_of blanks ≡ configured.now.config.top.shards }
     requires paused { ArePaused (shown configured.now.config) carry.shards.items }
-    ensures queues { IfOk result (λ opened. length opened.2.queues.items ≡ configured.now.config.top.shards) }
+    ensures queues { IfOk result (λ opened. length opened.3.queues.items ≡ configured.now.config.top.shards) }
     ensures err { IfErr result (λ back. back.shards.items ≡ carry.shards.items) }
 {
     let config = &configured.config;
-    match EpochRoom::<'_, N>::new(alloc, config, carry) {
+    let Ok(pause) = PauseRoom::<'_, Global, N>::new(alloc, config) else {
+        drop(blanks);
+        return Err(carry);
+    };
+    match EpochRoom::<N>::new(alloc, config.top.shards, carry) {
         Ok(room) => {
             let mut room = room;
             let shards = mem::replace(&mut room.carry.shards, Vec::new(alloc));
             match Hub::<'_, Global, N>::open_over(alloc, config, shards, blanks) {
-                Ok((hub, seat)) => Ok((hub, seat, room)),
+                Ok((hub, seat)) => Ok((hub, seat, pause, room)),
                 Err(shards) => {
+                    drop(pause);
                     let mut carry = room.into_carryover();
                     carry.shards = shards;
                     Err(carry)
@@ -53,6 +66,7 @@ fn open_over<'c, N: Opened>(
             }
         }
         Err(carry) => {
+            drop(pause);
             drop(blanks);
             Err(carry)
         }
@@ -65,8 +79,8 @@ fn run<'c, R: Host, N: Opened + Send + Sync, S: Source>(
     configured: &'c Configured,
     hub: &Hub<'c, Global, N>,
     crew: Crew<N>,
-    room: EpochRoom<'c, N>,
-) -> (EpochEnd, EpochRoom<'c, N>)
+    room: EpochRoom<N>,
+) -> (EpochEnd, EpochRoom<N>)
     requires { shown configured.now.config ≡ N.opening.config }
     ensures may { MayGoOn N.opening.config result.0 }
     ensures queues { length result.1.queues.items ≡ length room.queues.items }
@@ -138,7 +152,7 @@ pub fn serve_epoch<N: Opened + Send + Sync, R: Host, S: Source>(
     let alloc = server.alloc;
     let (wakers, timer, workers, logger, rests, blanks) = parts.into_parts();
     match open_over::<N>(alloc, configured, carry, blanks) {
-        Ok((hub, seat, mut room)) => {
+        Ok((hub, seat, pause, mut room)) => {
             let crew = Crew {
                 seat,
                 wakers,
@@ -149,7 +163,7 @@ pub fn serve_epoch<N: Opened + Send + Sync, R: Host, S: Source>(
                 rests: told_or(room.carry.rests.take(), rests),
             };
             let (end, room) = run(server, configured, &hub, crew, room);
-            match close_after(server.rt, hub, room) {
+            match close_after(server.rt, hub, pause, room) {
                 Ok(carry) => Ok((end, carry)),
                 Err(fault) => {
                     drop(end);
