@@ -62,7 +62,7 @@ CONSTANTS = {
     r"up to (\d+) datagrams of one\b|at most (\d+) datagrams of a socket": ("roam_workers/src/worker.rt", "IN_A_ROUND"),
     r"more than (\d+) entries are due|about (\d+) entries\b": ("roam_history/src/moment.rt", "MOST"),
     r"go back,\s+by (\d+) ms at most|moves them, by (\d+) ms at most": ("roam_history/src/moment.rt", "LATE"),
-    r"(\d+) sessions in a hold of a lock": ("roam_workers/src/hub_calls.rt", "SESSIONS_AT_ONCE"),
+    r"(\d+) sessions in a hold of a lock": ("roam_admin_thread/src/saving.rt", "SESSIONS_AT_ONCE"),
     r"the send\s+queue \((\d+) packets a worker": ("roam_port/src/sharing.rt", "GREATEST_SHARE"),
     r"packets a worker; (\d+) with 1,024 realms": ("roam_port/src/sharing.rt", "LEAST_SHARE"),
     r"at most (\d+)\s+connections are open": ("roam_admin/src/connections.rt", "CONNECTIONS"),

@@ -4,21 +4,16 @@
 //! status alone.
 #![tactic(auto)]
 
-use log::Log;
 use roam_cli::Fault;
 use roam_keeping::{Keeper, KeepsFiles, keep_on};
 use roam_outlet::{LogReader, Outlet, OutletWriter, ToOutlet, log_reader, write_on};
-use roam_program::command;
+use roam_program::{Host, command};
 use roam_stream_server::{ask_for_streams, stream_command};
 use std::alloc::Global;
 use std::io::{BufWriter, Write};
-use std::net::Net;
 use std::process::ExitCode;
-use std::random::RandomSource;
 use std::rt::{Env, Files};
-use std::sync::{Arc, Wait};
-use std::thread::Threads;
-use std::time::Clock;
+use std::sync::Arc;
 use std::{env, thread};
 
 /// Returns the words after the program's name.
@@ -36,11 +31,12 @@ fn ask_to_serve(words: &[String]) -> bool {
 }
 
 /// Does what the words ask for, and answers the status with which the program ends.
-fn obey<
-    R: Files + AllocGlobal + KeepsFiles + Threads + Wait + Clock + Net + RandomSource + Log + Sync,
-    W: Write,
-    E: Write,
->(rt: &R, words: &[String], out: &mut W, err: &mut E) -> u8 {
+fn obey<R: Files + AllocGlobal + KeepsFiles + Host, W: Write, E: Write>(
+    rt: &R,
+    words: &[String],
+    out: &mut W,
+    err: &mut E,
+) -> u8 {
     if ask_for_streams(words) {
         stream_command(rt, words, out, err)
     } else {

@@ -5,7 +5,7 @@ ghost use Rattle.std.specs.Prelude.{◌≡◌, negsuc};
 use libc::net::{POLLHUP, poll};
 use libc::types::pollfd;
 
-/// The connection over which somebody asks. It stays open for as long as the order lies on a desk.
+/// The connection over which somebody asks. It stays open for as long as the request waits.
 #[derive(Clone, Copy)]
 pub struct Caller {
     /// The descriptor of its socket; -1 where there is none.

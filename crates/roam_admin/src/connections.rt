@@ -3,8 +3,8 @@
 //! It never waits for one connection: each has a time and a bound on what it may ask, and where there are too many the
 //! one that has been quiet for longest is closed. No other thread waits for it.
 
-use crate::asker::Asker;
-use crate::desk::Office;
+use crate::admin::Admin;
+use crate::admin_service::AdminService;
 use crate::open_connection::{OpenConnection, Turn, step};
 use crate::pause::Pause;
 use crate::spare::{Spare, is_want_of_descriptors};
@@ -72,12 +72,14 @@ impl Listener for UnixListener {
 
 /// The place at which connections are taken, and the descriptor in hand.
 #[derive(Drop)]
-struct Entrance<'l, L> {
+struct Entrance<'a, 'l, L> {
+    alloc: Global,
+    admin: &'a Admin,
     listener: &'l L,
     spare: Spare,
 }
 
-impl<L: Listener> Entrance<'_, L> {
+impl<L: Listener> Entrance<'_, '_, L> {
     /// Takes the next connection: with the descriptor in hand, where there is no further one.
     fn next(&mut self) -> io::Result<L::Stream> {
         match self.listener.next() {
@@ -94,9 +96,9 @@ impl<L: Listener> Entrance<'_, L> {
 }
 
 /// Closes a connection. What was handed over by it and not taken is missing.
-fn close<T: Drop>(open: OpenConnection<T>, office: &Office) {
+fn close<T: Drop>(open: OpenConnection<T>, admin: &Admin) {
     if let Some(handed) = open.handed {
-        office.missing.add(handed);
+        admin.missing.add(handed);
     }
 }
 
@@ -114,10 +116,10 @@ fn quietest<T>(open: &[OpenConnection<T>]) -> usize {
 }
 
 /// Closes the quietest connection where as many are open as may be.
-fn make_room<T: Drop>(open: &mut Vec<OpenConnection<T>>, office: &Office) {
+fn make_room<T: Drop>(open: &mut Vec<OpenConnection<T>>, admin: &Admin) {
     let place = quietest(open.as_slice());
     if open.len() >= CONNECTIONS && place < open.len() {
-        close(open.remove(place), office);
+        close(open.remove(place), admin);
     }
 }
 
@@ -133,10 +135,8 @@ fn hindrance(error: io::Error) -> Option<io::Error> {
 /// took the descriptor in hand. Answers why none can be taken, where that is so.
 fn accept_all<R: RandomSource, L: Listener>(
     rt: &R,
-    alloc: Global,
-    entrance: &mut Entrance<'_, L>,
+    entrance: &mut Entrance<'_, '_, L>,
     open: &mut Vec<OpenConnection<L::Stream>>,
-    office: &Office,
     now: u64,
 ) -> Option<io::Error> {
     for _ in 0..TAKEN_AT_ONCE {
@@ -147,7 +147,7 @@ fn accept_all<R: RandomSource, L: Listener>(
         let Ok(keys) = RandomState::new(rt) else {
             return None;
         };
-        make_room(open, office);
+        make_room(open, entrance.admin);
         let limits = Limits {
             max_body_len: 0,
             ..Limits::default()
@@ -155,7 +155,7 @@ fn accept_all<R: RandomSource, L: Listener>(
         let _is_open = open
             .push(OpenConnection {
                 stream,
-                connection: Connection::new(alloc, keys, limits),
+                connection: Connection::new(entrance.alloc, keys, limits),
                 until: now.saturating_add(TIME),
                 handed: None,
                 is_written: false,
@@ -180,17 +180,17 @@ fn time_of<T>(open: &OpenConnection<T>, now: u64) -> u64 {
 /// Goes on with each connection, and closes those that are done or whose time is over.
 fn step_all<R: Wait + Clock + Log, T: Read + Write + AsRawFd + Drop>(
     open: &mut Vec<OpenConnection<T>>,
-    asker: &mut Asker<'_, R>,
+    service: &mut AdminService<'_, R>,
     mut moment: u64,
 ) {
-    let office = asker.office;
+    let admin = service.admin;
     let mut place = 0;
     for _ in 0..open.len() {
         let Some(one) = open.get_mut(place) else {
             return;
         };
-        let turn = step(one, asker);
-        moment = now(asker.rt, office.start, moment);
+        let turn = step(one, service);
+        moment = now(service.rt, admin.start, moment);
         match turn {
             Turn::Moved => one.until = time_of(one, moment),
             Turn::Done => one.handed = None,
@@ -198,7 +198,7 @@ fn step_all<R: Wait + Clock + Log, T: Read + Write + AsRawFd + Drop>(
         }
         let is_over = turn == Turn::Done || turn == Turn::Cut || one.until <= moment;
         if is_over {
-            close(open.remove(place), office);
+            close(open.remove(place), admin);
         } else {
             place += 1;
         }
@@ -240,31 +240,36 @@ fn wait<R: Clock, L: Listener>(
 /// says so once a minute.
 pub fn answer_on<R: Wait + Clock + RandomSource + Log, L: Listener>(
     alloc: Global,
-    asker: Asker<'_, R>,
+    service: AdminService<'_, R>,
     listener: &L,
 ) {
-    let mut asker = asker;
-    let rt = asker.rt;
-    let office = asker.office;
+    let mut service = service;
+    let rt = service.rt;
+    let admin = service.admin;
     let mut open = Vec::new(alloc);
     let mut pause = Pause::none();
     let spare = Spare::none();
-    let mut entrance = Entrance { listener, spare };
+    let mut entrance = Entrance {
+        alloc,
+        admin,
+        listener,
+        spare,
+    };
     let mut moment = 0;
     for _ in rt.forever() {
-        if office.is_over.load(Ordering::SeqCst) {
+        if admin.is_over.load(Ordering::SeqCst) {
             return;
         }
         entrance.spare.take(listener);
-        moment = now(rt, office.start, moment);
+        moment = now(rt, admin.start, moment);
         if pause.is_over(moment) {
-            if let Some(error) = accept_all(rt, alloc, &mut entrance, &mut open, office, moment) {
+            if let Some(error) = accept_all(rt, &mut entrance, &mut open, moment) {
                 if pause.begin(moment) {
-                    warn!(rt; "no connections are accepted at {}: {}", asker.door, error);
+                    warn!(rt; "no connections are accepted at {}: {}", service.socket, error);
                 }
             }
         }
-        step_all(&mut open, &mut asker, moment);
+        step_all(&mut open, &mut service, moment);
         wait(rt, listener, pause.is_over(moment), open.as_slice());
     }
 }

@@ -1,7 +1,7 @@
 //! The place of each realm in the file of the configuration.
 
 ghost use Rattle.std.specs.Prelude.{◌≡◌, slice_get};
-ghost use Rattle.roam_admin.specs.Orders.{place_in};
+ghost use Rattle.roam_admin.specs.Requests.{place_in};
 
 use std::alloc::{AllocError, Global};
 

@@ -9,7 +9,7 @@
 //!
 //! # Proved
 //!
-//! - which orders change the server, or let go of what it stores | `Order::changes`
+//! - which requests change the server, or let go of what it stores | `AdminRequest::changes`
 //! - the time that a server has which is asked to stop is 30 seconds at most; the end is the earlier one | `grace`,
 //!   `earlier`
 //! - where the system gives no connection, none is taken for a second; that is said once a minute at most |
@@ -17,26 +17,30 @@
 //! - the descriptor in hand is given up once | `Spare::give_up`
 #![tactic(auto)]
 
-mod asker;
+mod admin;
+mod admin_queue;
+mod admin_reply;
+mod admin_request;
+mod admin_service;
 mod caller;
 mod connections;
-mod desk;
 mod file_order;
 mod missing;
 mod open_connection;
-mod order;
 mod pause;
 mod reloads;
 mod script;
 mod spare;
 mod stopping;
 
-pub use asker::{Asker, Door};
+pub use admin::Admin;
+pub use admin_queue::AdminQueue;
+pub use admin_reply::{AdminReply, ReplyStatus, done, plain_reply};
+pub use admin_request::{AdminRequest, MetricsRequest};
+pub use admin_service::{AdminService, AdminSocket};
 pub use connections::{Listener, answer_on};
-pub use desk::{Course, Desk, Office, Reply, done, plain_reply};
 pub use file_order::FileOrder;
 pub use missing::{Handed, Missing};
-pub use order::Order;
 pub use reloads::{Build, Tally};
 pub use script::{Numbering, script_of};
 pub use stopping::{Stopping, grace};

@@ -1,6 +1,6 @@
 //! One connection over HTTP: it reads, answers and writes as far as that goes without waiting.
 
-use crate::asker::Asker;
+use crate::admin_service::AdminService;
 use crate::caller::Caller;
 use crate::missing::Handed;
 use http_server::{Connection, Reason, State};
@@ -103,13 +103,13 @@ fn after_error(error: &io::Error, has_moved: bool) -> Option<Turn> {
 /// Reads, answers and writes as far as that goes without waiting.
 pub fn step<R: Wait + Log, T: Read + Write + AsRawFd>(
     open: &mut OpenConnection<T>,
-    asker: &mut Asker<'_, R>,
+    service: &mut AdminService<'_, R>,
 ) -> Turn {
     let mut has_moved = false;
-    asker.caller = Caller::at(open.stream.as_raw_fd());
+    service.caller = Caller::at(open.stream.as_raw_fd());
     for _ in 0..TURNS {
-        open.connection.advance(asker);
-        open.handed = asker.take_handed().or(open.handed);
+        open.connection.advance(service);
+        open.handed = service.take_handed().or(open.handed);
         if open.connection.is_done() {
             return end_answer(open);
         }

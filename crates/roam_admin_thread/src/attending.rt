@@ -5,34 +5,27 @@ ghost use Rattle.roam_conf.specs.Shown.{shown};
 ghost use Rattle.roam_reload.specs.Reload.{MayFollow};
 
 use crate::configured::Configured;
+use crate::host::Host;
 use crate::keeping::Dues;
-use crate::losing::objection;
 use crate::manner::StateFile;
 use crate::next::{Next, following_of, prepare_next};
 use crate::overview::Overview;
 use crate::source::{Following, Source};
-use log::Log;
-use roam_admin::{Course, Desk, FileOrder, Order, Reply, done, grace, plain_reply};
+use roam_admin::{AdminReply, AdminRequest, FileOrder, ReplyStatus, done, grace, plain_reply};
 use roam_counters::Process;
-use roam_history::{Opened, Seat};
+use roam_history::{HubCalls, Opened, Seat};
 use roam_log::ReloadEnd;
 use roam_logger::tell_reload;
 use roam_metrics::{StatusForm, page, status};
-use roam_outgoing::ThreadCounts;
-use roam_sockets::{BoundSocket, now};
-use roam_workers::{HubCalls, Shared};
+use roam_sockets::now;
+use roam_workers::Epoch;
 use std::alloc::{AllocError, Global};
-use std::net::Net;
-use std::sync::Wait;
-use std::thread::Threads;
-use std::time::Clock;
 
 /// The means of the server's own thread while the others serve.
 #[derive(Drop)]
-pub struct Attendant<'s, 'c, R, H, N: Opened> {
+pub struct AdminThread<'s, 'c, 'a, R, H, N: Opened, S> {
     pub rt: &'s R,
-    pub shared: &'s Shared<'s, 'c, H, N>,
-    pub sockets: &'s [BoundSocket],
+    pub epoch: &'s Epoch<'s, 'c, H, N>,
     /// Through which the stored steps of a shard are let go of. The audit counts that.
     pub seat: Seat<Global, N>,
     /// In milliseconds since the server's start.
@@ -43,109 +36,92 @@ pub struct Attendant<'s, 'c, R, H, N: Opened> {
     pub dues: Dues,
     /// The place that each realm has in the file; none where that is by the server's own numbers.
     pub order: Option<&'s FileOrder>,
+    /// The source of the configuration that follows.
+    pub source: &'a mut S,
 }
 
-impl<'s, 'c, R, H, N: Opened> Attendant<'s, 'c, R, H, N> {
+impl<'s, 'c, 'a, R, H, N: Opened, S> AdminThread<'s, 'c, 'a, R, H, N, S> {
     /// Returns what it has at first.
     pub fn new(
         rt: &'s R,
-        shared: &'s Shared<'s, 'c, H, N>,
+        epoch: &'s Epoch<'s, 'c, H, N>,
         configured: &'s Configured,
         seat: Seat<Global, N>,
-    ) -> Attendant<'s, 'c, R, H, N> {
-        Attendant {
+        source: &'a mut S,
+    ) -> AdminThread<'s, 'c, 'a, R, H, N, S> {
+        AdminThread {
             rt,
-            shared,
-            sockets: configured.sockets.as_slice(),
+            epoch,
             seat,
             now: 0,
             state: configured.manner.state.as_ref(),
             dues: Dues::at_once(),
             order: configured.manner.order.as_ref(),
+            source,
         }
     }
 }
 
 /// Makes an answer with nothing in it.
-pub(crate) fn bare(alloc: Global, course: Course) -> Reply {
-    plain_reply(course, Vec::new(alloc))
+pub(crate) fn bare(alloc: Global, status: ReplyStatus) -> AdminReply {
+    plain_reply(status, Vec::new(alloc))
 }
 
 /// Returns what is answered to who has the server stop.
-pub fn stopping(alloc: Global) -> Reply {
+pub fn stopping(alloc: Global) -> AdminReply {
     let mut body = Vec::new(alloc);
     let _is_said = body.extend_from_slice(b"stopping\n").is_ok();
-    plain_reply(Course::Begun, body)
+    plain_reply(ReplyStatus::Begun, body)
 }
 
-impl<R: Threads + Wait + Clock + Net + Log + Sync, H: HubCalls<N>, N: Opened> Attendant<
-    '_,
-    '_,
-    R,
-    H,
-    N,
-> {
-    /// Returns the counts of this thread, which are the timer's too.
-    fn counts(&self) -> Option<ThreadCounts<'_>> {
-        let shared = self.shared;
-        shared
-            .counters?
-            .of_thread(usize::from(shared.config.top.shards))
-    }
-
+impl<R: Host, H: HubCalls<Global, N>, N: Opened, S: Source> AdminThread<'_, '_, '_, R, H, N, S> {
     /// Returns what was counted, and how all stands; none where nothing is counted.
     fn look(&self) -> Result<Option<Overview<'_>>, AllocError> {
-        let shared = self.shared;
-        match shared.counters {
+        let epoch = self.epoch;
+        match epoch.counters {
             Some(counters) => Ok(Some(Overview::look(
-                self.rt, shared, &self.seat, counters, self.now,
+                self.rt, epoch, &self.seat, counters, self.now,
             )?)),
             None => Ok(None),
         }
     }
 
     /// Answers with the counts, as the page of metrics.
-    fn metrics(&self) -> Result<Reply, AllocError> {
-        let about = self.shared.office.about(self.now);
+    fn metrics(&self) -> Result<AdminReply, AllocError> {
+        let about = self.epoch.admin.about(self.now);
         match self.look()? {
             Some(standing) => {
-                let page = page(self.shared.alloc, self.shared.config, &standing, &about)?;
+                let page = page(self.epoch.alloc, self.epoch.config, &standing, &about)?;
                 Ok(done(page))
             }
-            None => Ok(bare(self.shared.alloc, Course::Unknown)),
+            None => Ok(bare(self.epoch.alloc, ReplyStatus::Unknown)),
         }
     }
 
     /// Returns how the server stands.
-    fn status(&self, form: StatusForm) -> Result<Reply, AllocError> {
+    fn status(&self, form: StatusForm) -> Result<AdminReply, AllocError> {
         let Some(standing) = self.look()? else {
-            return Ok(bare(self.shared.alloc, Course::Unknown));
+            return Ok(bare(self.epoch.alloc, ReplyStatus::Unknown));
         };
-        let about = self.shared.office.about(self.now);
-        let body = status(
-            self.shared.alloc,
-            self.shared.config,
-            &standing,
-            &about,
-            form,
-        )?;
+        let about = self.epoch.admin.about(self.now);
+        let body = status(self.epoch.alloc, self.epoch.config, &standing, &about, form)?;
         Ok(done(body))
     }
 
     /// Has the server take no request any more, and end when those that wait had time to be answered.
-    fn stop(&self) -> Reply {
-        let shared = self.shared;
-        shared.stopping.ask();
-        let end = self.now.saturating_add(grace(shared.config));
-        if shared.stopping.end_at(end) {
-            shared.rest.wake();
+    fn stop(&self) -> AdminReply {
+        let epoch = self.epoch;
+        epoch.stopping.ask();
+        let end = self.now.saturating_add(grace(epoch.config));
+        if epoch.stopping.end_at(end) {
+            epoch.wake_timer();
         }
-        stopping(shared.alloc)
+        stopping(epoch.alloc)
     }
 
     /// Counts that so many stored steps of a shard were let go of.
     pub(crate) fn count_gone(&self, shard: u16, steps: usize) {
-        if let Some(counts) = self.counts() {
+        if let Some(counts) = self.epoch.timer_counts() {
             counts.history_is(shard, 0);
             counts.process(Process::TimeLetGo, 1);
             counts.process(Process::StepLetGo, steps as u64);
@@ -154,25 +130,25 @@ impl<R: Threads + Wait + Clock + Net + Log + Sync, H: HubCalls<N>, N: Opened> At
 
     /// Lets go of all stored steps, so that they needn't be freed while nobody serves.
     fn let_go_all(&mut self) {
-        for shard in 0..self.shared.config.top.shards {
-            if let Ok(steps) = self.shared.hub.let_go(self.rt, &mut self.seat, shard) {
+        for shard in 0..self.epoch.config.top.shards {
+            if let Ok(steps) = self.epoch.hub.let_go(self.rt, &mut self.seat, shard) {
                 if !steps.is_empty() {
                     self.count_gone(shard, steps.len());
-                    self.shared.old_history.hand_over(self.rt, steps);
+                    self.epoch.reclaimer.hand_over(self.rt, steps);
                 }
             }
         }
     }
 
     /// Returns the configuration that is to follow, to which nobody objects, or why none follows.
-    fn agreed_of<S: Source>(&self, source: &mut S, is_agreed: bool) -> Result<Following, Reply>
+    fn agreed_of(&mut self, is_agreed: bool) -> Result<Following, AdminReply>
         ensures { IfOk result (λ following. MayFollow N.opening.config (shown following.config)) }
     {
-        let following = following_of(self.shared, source)?;
+        let following = following_of(self.epoch, self.source)?;
         if is_agreed {
             return Ok(following);
         }
-        match objection(self.rt, self.shared, &self.seat, &following.config) {
+        match self.objection(&following.config) {
             Some(reply) => Err(reply),
             None => Ok(following),
         }
@@ -180,87 +156,92 @@ impl<R: Threads + Wait + Clock + Net + Log + Sync, H: HubCalls<N>, N: Opened> At
 
     /// Returns the configuration that is to follow, to which nobody objects, with all that the server needs for it,
     /// and whether it was agreed to; or why none follows.
-    fn next_of<S: Source>(&self, source: &mut S, is_agreed: bool) -> Result<Next, Reply>
+    fn next_of(&mut self, is_agreed: bool) -> Result<Next, AdminReply>
         ensures may { IfOk result (λ next. MayFollow N.opening.config (shown next.configured.config)) }
         ensures agreed { IfOk result (λ next. next.is_agreed ≡ is_agreed) }
     {
-        let following = self.agreed_of(source, is_agreed)?;
-        let mut next = prepare_next(self.rt, self.shared, self.sockets, source, following)?;
+        let following = self.agreed_of(is_agreed)?;
+        let mut next = prepare_next(self.rt, self.epoch, self.source, following)?;
         next.is_agreed = is_agreed;
         Ok(next)
     }
 
-    /// Answers an order, unless a configuration comes by it that is to follow.
-    fn attend_to<S: Source>(&mut self, desk: &Desk, order: Order, source: &mut S) -> Option<Next>
+    /// Has a configuration come that is to follow, or answers why none does.
+    fn reload(&mut self, is_agreed: bool) -> Result<Next, AdminReply>
+        ensures may { IfOk result (λ next. MayFollow N.opening.config (shown next.configured.config)) }
+        ensures agreed { IfOk result (λ next. next.is_agreed ≡ is_agreed) }
+    {
+        match self.next_of(is_agreed) {
+            Ok(next) => {
+                self.let_go_all();
+                Ok(next)
+            }
+            Err(reply) => {
+                tell_reload(self.rt, ReloadEnd::Declined, reply.body.as_slice());
+                self.epoch.admin.count_reload(reply.status, self.now);
+                Err(reply)
+            }
+        }
+    }
+
+    /// Answers a request through the control socket, unless a configuration comes by it that is to follow.
+    fn answer(&mut self, request: AdminRequest) -> Option<Next>
         ensures may { IfSome result (λ next.
             MayFollow N.opening.config (shown next.configured.config)) }
-        ensures agreed { IfSome result (λ next. order ≡ Order.Reload next.is_agreed) }
+        ensures agreed { IfSome result (λ next. request ≡ AdminRequest.Reload next.is_agreed) }
     {
-        self.now = now(self.rt, self.shared.start, self.now);
-        let reply = match order {
-            Order::Metrics => self.metrics(),
-            Order::Status(form) => self.status(form),
-            Order::Stop => Ok(self.stop()),
-            Order::Trace(shard) => self.trace(shard),
-            Order::Reload(is_agreed) => {
-                match self.next_of(source, is_agreed) {
-                    Ok(next) => {
-                        self.let_go_all();
-                        return Some(next);
-                    }
-                    Err(reply) => {
-                        tell_reload(self.rt, ReloadEnd::Declined, reply.body.as_slice());
-                        self.shared.office.count_reload(reply.course, self.now);
-                        Ok(reply)
-                    }
-                }
-            }
+        self.now = now(self.rt, self.epoch.start, self.now);
+        let reply = match request {
+            AdminRequest::Metrics => self.metrics(),
+            AdminRequest::Status(form) => self.status(form),
+            AdminRequest::Stop => Ok(self.stop()),
+            AdminRequest::Trace(shard) => self.trace(shard),
+            AdminRequest::Reload(is_agreed) => match self.reload(is_agreed) {
+                Ok(next) => return Some(next),
+                Err(reply) => Ok(reply),
+            },
         };
-        let reply = reply.unwrap_or(bare(self.shared.alloc, Course::Unavailable));
-        desk.answer(self.rt, reply);
+        let reply = reply.unwrap_or(bare(self.epoch.alloc, ReplyStatus::Unavailable));
+        self.epoch.admin.control.answer(self.rt, reply);
         None
     }
 
-    /// Answers who asks at a desk, unless a configuration comes by it that is to follow.
-    fn attend_at<S: Source>(&mut self, desk: &Desk, source: &mut S) -> Option<Next>
+    /// Answers who asks for the counts at the endpoint of metrics.
+    fn answer_metrics(&mut self) {
+        if self.epoch.admin.metrics.request(self.rt).is_none() {
+            return;
+        }
+        self.now = now(self.rt, self.epoch.start, self.now);
+        let reply = self.metrics();
+        let reply = reply.unwrap_or(bare(self.epoch.alloc, ReplyStatus::Unavailable));
+        self.epoch.admin.metrics.answer(self.rt, reply);
+    }
+
+    /// Answers who asks in either queue, unless a configuration comes by it that is to follow.
+    fn poll(&mut self) -> Option<Next>
         ensures { IfSome result (λ next.
             MayFollow N.opening.config (shown next.configured.config)) }
     {
-        let order = desk.order(self.rt)?;
-        self.attend_to(desk, order, source)
-    }
-
-    /// Answers who asks for the counts. No configuration comes by that.
-    fn attend_metrics<S: Source>(&mut self, source: &mut S) {
-        let office = self.shared.office;
-        let _never = self.attend_at(&office.metrics, source);
-    }
-
-    /// Answers who asks at either desk, unless a configuration comes by it that is to follow.
-    fn attend_both<S: Source>(&mut self, source: &mut S) -> Option<Next>
-        ensures { IfSome result (λ next.
-            MayFollow N.opening.config (shown next.configured.config)) }
-    {
-        self.attend_metrics(source);
-        let office = self.shared.office;
-        self.attend_at(&office.control, source)
+        self.answer_metrics();
+        let request = self.epoch.admin.control.request(self.rt)?;
+        self.answer(request)
     }
 
     /// Answers who asks, and keeps the ledgers of sessions, until the threads end or another configuration follows.
-    pub fn attend<S: Source>(&mut self, source: &mut S) -> Option<Next>
+    pub fn run(&mut self) -> Option<Next>
         ensures { IfSome result (λ next.
             MayFollow N.opening.config (shown next.configured.config)) }
     {
         let rt = self.rt;
         for _ in rt.forever() {
-            if self.shared.is_over() {
+            if self.epoch.is_over() {
                 self.tell_dropped_at_end();
                 return None;
             }
-            if let Some(next) = self.attend_both(source) {
+            if let Some(next) = self.poll() {
                 return Some(next);
             }
-            self.keep_and_rest(source);
+            self.keep_and_rest();
         }
         unreachable!()
     }

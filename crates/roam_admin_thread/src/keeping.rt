@@ -2,15 +2,14 @@
 
 ghost use Rattle.std.specs.Prelude.{◌≡◌, ◌≤◌, ◌↔◌, ◌+◌, ◌-◌, ◌^◌, min, IsFalse, IsTrue};
 
-use crate::attending::Attendant;
-use crate::hub_end::HubEnd;
-use crate::saving::ledgers_of;
+use crate::attending::AdminThread;
+use crate::epoch_end::EpochEnd;
 use crate::source::{Keeping, Source};
 use log::Log;
-use roam_history::Opened;
+use roam_history::{HubCalls, Opened};
 use roam_logger::tell_not_kept;
 use roam_sockets::now;
-use roam_workers::HubCalls;
+use std::alloc::Global;
 use std::sync::Wait;
 use std::thread;
 use std::time::{Clock, Duration};
@@ -86,18 +85,26 @@ impl Dues {
     }
 }
 
-impl<R: Wait + Clock + Log, H: HubCalls<N>, N: Opened> Attendant<'_, '_, R, H, N> {
+impl<R: Wait + Clock + Log, H: HubCalls<Global, N>, N: Opened, S: Source> AdminThread<
+    '_,
+    '_,
+    '_,
+    R,
+    H,
+    N,
+    S,
+> {
     /// Hands the ledgers of all realms as they stand to who keeps them at this path. Returns what becomes of them.
-    fn hand_over<S: Source>(&self, path: &str, source: &mut S) -> Keeping {
-        match ledgers_of(self.rt, self.shared, &self.seat) {
-            Ok(octets) => source.keep(path, octets),
+    fn hand_over(&mut self, path: &str) -> Keeping {
+        match self.ledgers() {
+            Ok(octets) => self.source.keep(path, octets),
             Err(_) => Keeping::Declined(OUT_OF_MEMORY),
         }
     }
 
     /// Tells how the writing ended that was begun last, where that isn't told yet and it failed.
-    fn tell_end<S: Source>(&self, source: &mut S) {
-        let Some(end) = source.keep_end() else {
+    fn tell_end(&mut self) {
+        let Some(end) = self.source.keep_end() else {
             return;
         };
         if let Some(why) = end.fault {
@@ -114,16 +121,16 @@ impl<R: Wait + Clock + Log, H: HubCalls<N>, N: Opened> Attendant<'_, '_, R, H, N
 
     /// Has the ledgers of all realms be kept as they stand, where they are to outlast the server. Where that can't be
     /// it is told, and the file stays as it was.
-    fn keep_ledgers<S: Source>(&mut self, source: &mut S) {
+    fn keep_ledgers(&mut self) {
         let Some(file) = self.state else {
             return;
         };
         let path = file.path.as_str();
-        if source.is_keeping() {
+        if self.source.is_keeping() {
             self.tell_slow(path);
             return;
         }
-        match self.hand_over(path, source) {
+        match self.hand_over(path) {
             Keeping::Begun | Keeping::Spared => {}
             Keeping::Busy => self.tell_slow(path),
             Keeping::Declined(why) => tell_not_kept(self.rt, path, why),
@@ -131,22 +138,22 @@ impl<R: Wait + Clock + Log, H: HubCalls<N>, N: Opened> Attendant<'_, '_, R, H, N
     }
 
     /// Has them be kept where that is due: first when a configuration is served. Tells how the writing before ended.
-    fn keep_if_due<S: Source>(&mut self, source: &mut S) {
-        self.tell_end(source);
+    fn keep_if_due(&mut self) {
+        self.tell_end();
         let Some(file) = self.state else {
             return;
         };
-        self.now = now(self.rt, self.shared.start, self.now);
+        self.now = now(self.rt, self.epoch.start, self.now);
         if self.dues.is_keeping_due(self.now, file.every) {
-            self.keep_ledgers(source);
+            self.keep_ledgers();
         }
     }
 
     /// Waits until nothing is being written, or until this moment, in milliseconds since the server's start.
-    fn wait_for_disk<S: Source>(&self, source: &mut S, until: u64) {
+    fn wait_for_disk(&mut self, until: u64) {
         for _ in 0..LOOKS {
-            let is_over = until <= now(self.rt, self.shared.start, self.now);
-            if is_over || !source.is_keeping() {
+            let is_over = until <= now(self.rt, self.epoch.start, self.now);
+            if is_over || !self.source.is_keeping() {
                 return;
             }
             thread::sleep(self.rt, Duration::from_millis(BETWEEN_LOOKS));
@@ -155,17 +162,17 @@ impl<R: Wait + Clock + Log, H: HubCalls<N>, N: Opened> Attendant<'_, '_, R, H, N
 
     /// Has the ledgers be kept in the file of this path as they stand at the end, until this moment. Returns why they
     /// aren't, if so.
-    fn keep_last<S: Source>(&self, path: &str, source: &mut S, until: u64) -> Option<&'static str> {
-        self.wait_for_disk(source, until);
-        self.tell_end(source);
-        match self.hand_over(path, source) {
+    fn keep_last(&mut self, path: &str, until: u64) -> Option<&'static str> {
+        self.wait_for_disk(until);
+        self.tell_end();
+        match self.hand_over(path) {
             Keeping::Declined(why) => return Some(why),
             Keeping::Busy => return Some(TOO_SLOW),
             Keeping::Spared => return Some(SPARED),
             Keeping::Begun => {}
         }
-        self.wait_for_disk(source, until);
-        match source.keep_end() {
+        self.wait_for_disk(until);
+        match self.source.keep_end() {
             Some(end) => end.fault,
             None => Some(TOO_SLOW),
         }
@@ -173,42 +180,42 @@ impl<R: Wait + Clock + Log, H: HubCalls<N>, N: Opened> Attendant<'_, '_, R, H, N
 
     /// Keeps them as they stand then, where the server ends. Where they aren't kept, that is told with what is lost by
     /// it.
-    pub fn keep_at_end<S: Source>(&self, end: &HubEnd, source: &mut S) {
+    pub fn keep_at_end(&mut self, end: &EpochEnd) {
         let Some(file) = self.state else {
             return;
         };
         if !end.is_over() {
             return;
         }
-        let until = now(self.rt, self.shared.start, self.now).saturating_add(FOR_LAST);
-        if let Some(why) = self.keep_last(file.path.as_str(), source, until) {
+        let until = now(self.rt, self.epoch.start, self.now).saturating_add(FOR_LAST);
+        if let Some(why) = self.keep_last(file.path.as_str(), until) {
             tell_not_kept(self.rt, file.path.as_str(), why);
             self.tell_unkept_at_end();
         }
     }
 
     /// Waits until somebody asks, or the ledgers are to be kept, or a writing is to be looked at, or the threads end.
-    fn rest<S: Source>(&self, source: &mut S) {
-        let attendant = &self.shared.office.attendant;
+    fn rest(&mut self) {
+        let parker = &self.epoch.admin.thread;
         let left = match self.state {
             Some(_) => self.dues.keeping.saturating_sub(self.now),
             None => u64::MAX,
         };
-        let wait = if source.is_keeping() {
+        let wait = if self.source.is_keeping() {
             left.min(WHILE_WRITING)
         } else {
             left
         };
         if wait == u64::MAX {
-            attendant.park(self.rt);
+            parker.park(self.rt);
         } else {
-            attendant.park_timeout(self.rt, Duration::from_millis(wait));
+            parker.park_timeout(self.rt, Duration::from_millis(wait));
         }
     }
 
     /// Has them be kept where that is due, and waits until there is something to do.
-    pub fn keep_and_rest<S: Source>(&mut self, source: &mut S) {
-        self.keep_if_due(source);
-        self.rest(source);
+    pub fn keep_and_rest(&mut self) {
+        self.keep_if_due();
+        self.rest();
     }
 }

@@ -2,16 +2,16 @@
 //! makes all that is needed for the configuration that is to follow, before anything changes.
 //!
 //! It starts no thread that outlasts a call, and opens no hub: it has a seat of the one that is served. The parts of an
-//! epoch's threads that name no hub are made here (`make_kits`), for the first epoch too.
+//! epoch's threads that name no hub are made here (`EpochParts::new`), for the first epoch too.
 #![tactic(auto)]
 
 mod attending;
 mod configured;
 mod dealing;
-mod fresh;
-mod hub_end;
+mod epoch_end;
+mod epoch_parts;
+mod host;
 mod keeping;
-mod kits;
 mod losing;
 mod manner;
 mod next;
@@ -22,11 +22,11 @@ mod tracing;
 mod trial;
 mod watch;
 
-pub use attending::{Attendant, stopping};
-pub use configured::{Configured, Handover};
-pub use fresh::FreshMeans;
-pub use hub_end::HubEnd;
-pub use kits::{Kit, Kits, ThreadKits, fill_outboxes, make_kits, make_outboxes};
+pub use attending::{AdminThread, stopping};
+pub use configured::Configured;
+pub use epoch_end::EpochEnd;
+pub use epoch_parts::{EpochParts, ThreadParts, fill_outboxes};
+pub use host::Host;
 pub use losing::{declined_for, tell_what_went};
 pub use manner::{Manner, StateFile};
 pub use next::{Next, out_of_memory, widen_all};

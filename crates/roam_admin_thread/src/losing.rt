@@ -5,73 +5,20 @@ ghost use Rattle.std.specs.Prelude.{IfOk};
 ghost use Rattle.roam_conf.specs.Shown.{shown};
 ghost use Rattle.roam_migrate.specs.Carrying.{AreChanged};
 
-use crate::attending::Attendant;
+use crate::attending::AdminThread;
 use crate::next::out_of_memory;
 use log::Log;
-use roam_admin::{Course, Reply, plain_reply};
+use roam_admin::{AdminReply, ReplyStatus, plain_reply};
 use roam_conf::{Config, Realm};
-use roam_history::{Opened, Seat};
+use roam_history::{HubCalls, Opened};
 use roam_log::{DropCause, DroppedText};
 use roam_logger::tell_dropped;
 use roam_migrate::{Loss, changed_peers};
 use roam_realm::Gauges;
 use roam_reload::{RealmKey, has_same_outs, has_same_servers, is_other_in};
-use roam_workers::{HubCalls, Shared};
 use std::alloc::{AllocError, Global};
 use std::io::Write;
 use std::sync::Wait;
-
-/// Returns what goes of the realm of an index; nothing where that isn't known.
-fn loss_at<R: Wait, H: HubCalls<N>, N: Opened>(
-    rt: &R,
-    shared: &Shared<'_, '_, H, N>,
-    seat: &Seat<Global, N>,
-    realm: u16,
-    next: &Config,
-    changed: &[u16],
-) -> Loss
-    requires { AreChanged N.opening.config.peers (shown next.now).peers changed.now }
-{
-    match shared.hub.losses(rt, seat, realm, next, changed) {
-        Some(loss) => loss,
-        None => Loss {
-            waiting: 0,
-            held: 0,
-            sessions: 0,
-        },
-    }
-}
-
-/// Lists the peers that have other tables in a configuration that follows.
-fn changed_of<H, N: Opened>(
-    shared: &Shared<'_, '_, H, N>,
-    next: &Config,
-) -> Result<Vec<u16>, AllocError>
-    ensures { IfOk result (λ changed.
-        AreChanged N.opening.config.peers (shown next.now).peers changed.items) }
-{
-    let alloc = shared.alloc;
-    match changed_peers(alloc, shared.config.peers.as_slice(), next.peers.as_slice()) {
-        Ok(changed) => Ok(changed),
-        Err(_) => Err(AllocError),
-    }
-}
-
-/// Returns what goes of each realm where a configuration follows.
-fn all_losses<R: Wait, H: HubCalls<N>, N: Opened>(
-    rt: &R,
-    shared: &Shared<'_, '_, H, N>,
-    seat: &Seat<Global, N>,
-    next: &Config,
-) -> Result<Vec<Loss>, AllocError> {
-    let changed = changed_of(shared, next)?;
-    let mut losses = Vec::new(shared.alloc);
-    for realm in 0..shared.config.realms.len() {
-        let loss = loss_at(rt, shared, seat, realm as u16, next, changed.as_slice());
-        losses.push(loss)?;
-    }
-    Ok(losses)
-}
 
 /// Returns whether no request that waits and no session goes: held replies stop no change.
 fn is_nothing(loss: &Loss) -> bool {
@@ -134,8 +81,8 @@ fn why_not(alloc: Global, config: &Config, next: Option<&Config>, losses: &[Loss
 
 /// Returns what is answered to who asked for a configuration by which so much would be lost of the realms of the one
 /// that is served, by their indexes, and to which nobody agreed.
-pub fn declined_for(alloc: Global, config: &Config, losses: &[Loss]) -> Reply {
-    plain_reply(Course::Declined, why_not(alloc, config, None, losses))
+pub fn declined_for(alloc: Global, config: &Config, losses: &[Loss]) -> AdminReply {
+    plain_reply(ReplyStatus::Declined, why_not(alloc, config, None, losses))
 }
 
 /// Tells what went of each realm of a configuration, by their indexes, where another one followed it.
@@ -154,37 +101,77 @@ pub fn tell_what_went<R: Log>(rt: &R, config: &Config, losses: &[Loss]) {
     }
 }
 
-/// Returns why a configuration isn't followed to which nobody agreed: a request that waits or a session would be lost
-/// by it as the realms stand now. The workers serve meanwhile, so it is looked again when they have ended.
-pub fn objection<R: Wait, H: HubCalls<N>, N: Opened>(
-    rt: &R,
-    shared: &Shared<'_, '_, H, N>,
-    seat: &Seat<Global, N>,
-    next: &Config,
-) -> Option<Reply> {
-    let Ok(losses) = all_losses(rt, shared, seat, next) else {
-        return Some(out_of_memory(shared.alloc));
-    };
-    if losses.iter().all(|loss| is_nothing(loss)) {
-        return None;
+impl<R: Wait, H: HubCalls<Global, N>, N: Opened, S> AdminThread<'_, '_, '_, R, H, N, S> {
+    /// Returns what goes of the realm of an index; nothing where that isn't known.
+    fn loss_at(&self, realm: u16, next: &Config, changed: &[u16]) -> Loss
+        requires { AreChanged N.opening.config.peers (shown next.now).peers changed.now }
+    {
+        match self
+            .epoch
+            .hub
+            .losses(self.rt, &self.seat, realm, next, changed)
+        {
+            Some(loss) => loss,
+            None => Loss {
+                waiting: 0,
+                held: 0,
+                sessions: 0,
+            },
+        }
     }
-    let why = why_not(shared.alloc, shared.config, Some(next), losses.as_slice());
-    Some(plain_reply(Course::Declined, why))
+
+    /// Lists the peers that have other tables in a configuration that follows.
+    fn changed_of(&self, next: &Config) -> Result<Vec<u16>, AllocError>
+        ensures { IfOk result (λ changed.
+            AreChanged N.opening.config.peers (shown next.now).peers changed.items) }
+    {
+        let epoch = self.epoch;
+        let before = epoch.config.peers.as_slice();
+        match changed_peers(epoch.alloc, before, next.peers.as_slice()) {
+            Ok(changed) => Ok(changed),
+            Err(_) => Err(AllocError),
+        }
+    }
+
+    /// Returns what goes of each realm where a configuration follows.
+    fn all_losses(&self, next: &Config) -> Result<Vec<Loss>, AllocError> {
+        let changed = self.changed_of(next)?;
+        let mut losses = Vec::new(self.epoch.alloc);
+        for realm in 0..self.epoch.config.realms.len() {
+            let loss = self.loss_at(realm as u16, next, changed.as_slice());
+            losses.push(loss)?;
+        }
+        Ok(losses)
+    }
+
+    /// Returns why a configuration isn't followed to which nobody agreed: a request that waits or a session would be
+    /// lost by it as the realms stand now. The workers serve meanwhile, so it is looked again when they have ended.
+    pub fn objection(&self, next: &Config) -> Option<AdminReply> {
+        let epoch = self.epoch;
+        let Ok(losses) = self.all_losses(next) else {
+            return Some(out_of_memory(epoch.alloc));
+        };
+        if losses.iter().all(|loss| is_nothing(loss)) {
+            return None;
+        }
+        let why = why_not(epoch.alloc, epoch.config, Some(next), losses.as_slice());
+        Some(plain_reply(ReplyStatus::Declined, why))
+    }
 }
 
-impl<R: Wait + Log, H: HubCalls<N>, N: Opened> Attendant<'_, '_, R, H, N> {
+impl<R: Wait + Log, H: HubCalls<Global, N>, N: Opened, S> AdminThread<'_, '_, '_, R, H, N, S> {
     /// Returns how a realm stands that is here, by its index.
     fn standing_of(&self, index: u16) -> Option<Gauges> {
-        let shared = self.shared;
-        match shared.config.realms.get(usize::from(index)) {
-            Some(realm) if !realm.gone => shared.hub.look(self.rt, &self.seat, index),
+        let epoch = self.epoch;
+        match epoch.config.realms.get(usize::from(index)) {
+            Some(realm) if !realm.gone => epoch.hub.look(self.rt, &self.seat, index),
             _ => None,
         }
     }
 
     /// Tells what the realm of an index drops, since the server ends.
     fn tell_end_of(&self, index: u16, waiting: u64, sessions: u64) {
-        if let Some(realm) = self.shared.config.realms.get(usize::from(index)) {
+        if let Some(realm) = self.epoch.config.realms.get(usize::from(index)) {
             let dropped = DroppedText {
                 cause: DropCause::End,
                 realm: realm.name.as_str(),
@@ -199,7 +186,7 @@ impl<R: Wait + Log, H: HubCalls<N>, N: Opened> Attendant<'_, '_, R, H, N> {
     /// Tells what all realms drop, since the server ends: the requests that wait, and the sessions where no file is to
     /// keep them.
     pub fn tell_dropped_at_end(&self) {
-        for index in 0..self.shared.config.realms.len() {
+        for index in 0..self.epoch.config.realms.len() {
             if let Some(gauges) = self.standing_of(index as u16) {
                 let sessions = match self.state {
                     Some(_) => 0,
@@ -212,7 +199,7 @@ impl<R: Wait + Log, H: HubCalls<N>, N: Opened> Attendant<'_, '_, R, H, N> {
 
     /// Tells of how many sessions of all realms no file has that were to be kept in one at the end.
     pub fn tell_unkept_at_end(&self) {
-        for index in 0..self.shared.config.realms.len() {
+        for index in 0..self.epoch.config.realms.len() {
             if let Some(gauges) = self.standing_of(index as u16) {
                 self.tell_end_of(index as u16, 0, gauges.sessions as u64);
             }

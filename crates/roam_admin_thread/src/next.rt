@@ -6,26 +6,24 @@ ghost use Rattle.roam_reload.specs.Reload.{MayFollow};
 ghost use Rattle.roam_history.specs.Books.{count_of};
 
 use crate::configured::Configured;
-use crate::fresh::FreshMeans;
-use crate::kits::Kits;
+use crate::epoch_parts::EpochParts;
+use crate::host::Host;
 use crate::manner::Manner;
 use crate::source::{Following, Source};
 use crate::trial::can_start;
 use log::Log;
-use roam_admin::{Course, Reply, plain_reply};
+use roam_admin::{AdminReply, ReplyStatus, plain_reply};
 use roam_conf::Config;
-use roam_history::{Blanks, Opened};
+use roam_history::{HubCalls, Opened};
 use roam_logger::{Notice, tell_or_drop};
 use roam_outgoing::Counters;
 use roam_sockets::{
     BoundSocket, RECEIVE_BUFFER, ServeFault, bind_following, descriptors_wanted, open_beside, widen,
 };
-use roam_workers::{HubCalls, Rests, Shared};
+use roam_workers::Epoch;
 use std::alloc::Global;
 use std::io::Write;
 use std::net::Net;
-use std::sync::Wait;
-use std::thread::Threads;
 
 /// The configuration that follows, and all that the server needs for it.
 #[derive(Drop)]
@@ -33,15 +31,13 @@ pub struct Next {
     pub configured: Configured,
     /// The answer to whoever asked for it.
     pub report: Vec<u8>,
-    pub kits: Kits,
-    pub rests: Rests,
-    pub blanks: Blanks<Global>,
+    pub parts: EpochParts,
     /// True where whoever asked agreed to lose by it what waits, is held or is open. Else it follows only where nothing
     /// is lost.
     pub is_agreed: bool,
     /// Memory that is given back before the threads start again, for what they are made of then.
     pub spare: Vec<u8>,
-    ghost one_for_each: { count_of blanks ≡ configured.config.top.shards },
+    ghost one_for_each: { count_of parts.blanks ≡ configured.config.top.shards },
 }
 
 /// The spare octets: for each socket, for the stack of each thread, and beside them.
@@ -65,7 +61,7 @@ fn spare_for(threads: usize, sockets: usize) -> usize {
 /// # Errors
 ///
 /// `Memory` and `Thread`.
-fn room_for_threads<R: Threads + Wait + Sync>(
+fn room_for_threads<R: Host>(
     rt: &R,
     alloc: Global,
     configured: &Configured,
@@ -93,43 +89,42 @@ pub fn widen_all<R: Log>(rt: &R, config: &Config, sockets: &[BoundSocket]) {
 }
 
 /// Makes an answer that says why nothing changes.
-fn declined(body: Vec<u8>) -> Reply {
-    plain_reply(Course::Declined, body)
+fn declined(body: Vec<u8>) -> AdminReply {
+    plain_reply(ReplyStatus::Declined, body)
 }
 
 /// Makes an answer that says so, where there is memory for it.
-fn declined_with(alloc: Global, words: &[u8]) -> Reply {
+fn declined_with(alloc: Global, words: &[u8]) -> AdminReply {
     let mut body = Vec::new(alloc);
     let _is_said = body.extend_from_slice(words).is_ok();
     declined(body)
 }
 
 /// Returns what is answered where memory is wanting.
-pub fn out_of_memory(alloc: Global) -> Reply {
+pub fn out_of_memory(alloc: Global) -> AdminReply {
     declined_with(alloc, b"roam: out of memory\n")
 }
 
 /// Returns what is said to who asks for another configuration where the server is asked to stop.
-fn is_stopping(alloc: Global) -> Reply {
+fn is_stopping(alloc: Global) -> AdminReply {
     declined_with(alloc, b"roam: asked to stop\n")
 }
 
 /// Binds the sockets of a configuration that follows the one that is served, and makes its counts. Sockets that both
 /// want are the same.
-fn bind_next<R: Net + Log, H: HubCalls<N>, N: Opened>(
+fn bind_next<R: Net + Log, H: HubCalls<Global, N>, N: Opened>(
     rt: &R,
-    shared: &Shared<'_, '_, H, N>,
-    sockets: &[BoundSocket],
+    epoch: &Epoch<'_, '_, H, N>,
     config: Config,
     manner: Manner,
 ) -> Result<Configured, ServeFault>
     ensures { IfOk result (λ configured. configured.config ≡ config) }
 {
-    let wanted = descriptors_wanted(shared.config, &config);
-    let sockets = bind_following(rt, shared.alloc, &config, sockets, wanted)?;
+    let wanted = descriptors_wanted(epoch.config, &config);
+    let sockets = bind_following(rt, epoch.alloc, &config, epoch.sockets, wanted)?;
     widen_all(rt, &config, sockets.as_slice());
-    let counters = match shared.counters {
-        Some(_) => Some(Counters::after(shared.alloc, shared.config, &config)?),
+    let counters = match epoch.counters {
+        Some(_) => Some(Counters::after(epoch.alloc, epoch.config, &config)?),
         None => None,
     };
     Ok(Configured {
@@ -153,10 +148,9 @@ fn words_of<S: Source>(source: &mut S, sockets: &[BoundSocket], fault: ServeFaul
 }
 
 /// Makes all that the server needs for a configuration that follows the one that is served.
-fn make_next<R: Threads + Wait + Net + Log + Sync, H: HubCalls<N>, N: Opened>(
+fn make_next<R: Host, H: HubCalls<Global, N>, N: Opened>(
     rt: &R,
-    shared: &Shared<'_, '_, H, N>,
-    sockets: &[BoundSocket],
+    epoch: &Epoch<'_, '_, H, N>,
     following: Following,
 ) -> Result<Next, ServeFault>
     ensures { IfOk result (λ next. next.configured.config ≡ following.config) }
@@ -166,21 +160,15 @@ fn make_next<R: Threads + Wait + Net + Log + Sync, H: HubCalls<N>, N: Opened>(
         manner,
         report,
     } = following;
-    let alloc = shared.alloc;
-    let configured = bind_next(rt, shared, sockets, config, manner)?;
-    let wanted = descriptors_wanted(shared.config, &configured.config);
+    let alloc = epoch.alloc;
+    let configured = bind_next(rt, epoch, config, manner)?;
+    let wanted = descriptors_wanted(epoch.config, &configured.config);
     let spare = room_for_threads(rt, alloc, &configured)?;
-    let FreshMeans {
-        kits,
-        rests,
-        blanks,
-    } = FreshMeans::new(rt, alloc, &configured, wanted)?;
+    let parts = EpochParts::new(rt, alloc, &configured, wanted)?;
     Ok(Next {
         configured,
         report,
-        kits,
-        rests,
-        blanks,
+        parts,
         is_agreed: false,
         spare,
     })
@@ -192,15 +180,15 @@ fn make_next<R: Threads + Wait + Net + Log + Sync, H: HubCalls<N>, N: Opened>(
 ///
 /// What is answered where none follows.
 pub fn following_of<H, N: Opened, S: Source>(
-    shared: &Shared<'_, '_, H, N>,
+    epoch: &Epoch<'_, '_, H, N>,
     source: &mut S,
-) -> Result<Following, Reply>
+) -> Result<Following, AdminReply>
     ensures { IfOk result (λ following. MayFollow N.opening.config (shown following.config)) }
 {
-    if shared.stopping.is_asked() {
-        return Err(is_stopping(shared.alloc));
+    if epoch.stopping.is_asked() {
+        return Err(is_stopping(epoch.alloc));
     }
-    match source.following(shared.config) {
+    match source.following(epoch.config) {
         Ok(following) => Ok(following),
         Err(body) => Err(declined(body)),
     }
@@ -212,17 +200,16 @@ pub fn following_of<H, N: Opened, S: Source>(
 /// # Errors
 ///
 /// What is answered where it can't be had.
-pub fn prepare_next<R: Threads + Wait + Net + Log + Sync, H: HubCalls<N>, N: Opened, S: Source>(
+pub fn prepare_next<R: Host, H: HubCalls<Global, N>, N: Opened, S: Source>(
     rt: &R,
-    shared: &Shared<'_, '_, H, N>,
-    sockets: &[BoundSocket],
+    epoch: &Epoch<'_, '_, H, N>,
     source: &mut S,
     following: Following,
-) -> Result<Next, Reply>
+) -> Result<Next, AdminReply>
     ensures { IfOk result (λ next. next.configured.config ≡ following.config) }
 {
-    match make_next(rt, shared, sockets, following) {
+    match make_next(rt, epoch, following) {
         Ok(next) => Ok(next),
-        Err(fault) => Err(declined(words_of(source, sockets, fault))),
+        Err(fault) => Err(declined(words_of(source, epoch.sockets, fault))),
     }
 }

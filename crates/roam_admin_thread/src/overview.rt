@@ -2,10 +2,10 @@
 
 use roam_conf::Config;
 use roam_counters::{CountedEvent, Process, Subject};
-use roam_history::{Gauges, Opened, Seat};
+use roam_history::{Gauges, HubCalls, Opened, Seat};
 use roam_metrics::{Counts, Gauge};
 use roam_outgoing::Counters;
-use roam_workers::{HubCalls, Shared};
+use roam_workers::Epoch;
 use std::alloc::{AllocError, Global};
 use std::sync::Wait;
 
@@ -21,17 +21,17 @@ pub struct Overview<'p> {
 
 impl<'p> Overview<'p> {
     /// Looks at the realms, one after the other.
-    pub fn look<R: Wait, H: HubCalls<N>, N: Opened>(
+    pub fn look<R: Wait, H: HubCalls<Global, N>, N: Opened>(
         rt: &R,
-        shared: &'p Shared<'_, '_, H, N>,
+        epoch: &'p Epoch<'_, '_, H, N>,
         seat: &Seat<Global, N>,
         counters: &'p Counters,
         now: u64,
     ) -> Result<Overview<'p>, AllocError> {
-        let config = shared.config;
-        let mut gauges = Vec::with_capacity(shared.alloc, config.realms.len())?;
+        let config = epoch.config;
+        let mut gauges = Vec::with_capacity(epoch.alloc, config.realms.len())?;
         for realm in 0..config.realms.len() {
-            gauges.push(shared.hub.look(rt, seat, realm as u16))?;
+            gauges.push(epoch.hub.look(rt, seat, realm as u16))?;
         }
         Ok(Overview {
             config,

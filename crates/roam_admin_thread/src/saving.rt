@@ -4,99 +4,83 @@ ghost use Rattle.std.specs.Prelude.{◌≡◌, ◌<◌, IfOk, List, OnOk, vec_le
 ghost use Rattle.roam_sessions.specs.Ledgers.{SavedItem, ledgers_text};
 ghost use Rattle.roam_realm.specs.Written.{GainsItems};
 
-use roam_history::{Opened, Seat};
+use crate::attending::AdminThread;
+use roam_history::{HubCalls, Opened};
 use roam_sessions::Writing;
-use roam_workers::{HubCalls, SESSIONS_AT_ONCE, Shared};
 use std::alloc::{AllocError, Global};
 use std::sync::Wait;
 
-/// Writes those sessions of a realm that have these tickets and are still open: its shard's lock is let go of after so
-/// many.
-fn write_sessions<R: Wait, H: HubCalls<N>, N: Opened>(
-    rt: &R,
-    shared: &Shared<'_, '_, H, N>,
-    seat: &Seat<Global, N>,
-    realm: u16,
-    tickets: &[u64],
-    writing: &mut Writing<Global>,
-) -> Result<(), AllocError>
-    ensures { OnOk result (GainsItems writing.old writing.new) }
-{
-    for few in tickets.chunks(SESSIONS_AT_ONCE) {
-        shared.hub.save(rt, seat, realm, few, writing)?;
-    }
-    Ok(())
-}
+/// The number of sessions that are written while a shard waits.
+const SESSIONS_AT_ONCE: usize = 256;
 
-/// Writes a realm, and answers the tickets of its sessions, the oldest first.
-fn begin_realm<R: Wait, H: HubCalls<N>, N: Opened>(
-    rt: &R,
-    shared: &Shared<'_, '_, H, N>,
-    seat: &Seat<Global, N>,
-    realm: u16,
-    writing: &mut Writing<Global>,
-) -> Result<Vec<u64>, AllocError>
-    ensures { OnOk result (GainsItems writing.old writing.new) }
-{
-    let mut tickets = Vec::new(shared.alloc);
-    match shared
-        .hub
-        .begin_saving(rt, seat, realm, &mut tickets, writing)
+impl<R: Wait, H: HubCalls<Global, N>, N: Opened, S> AdminThread<'_, '_, '_, R, H, N, S> {
+    /// Writes those sessions of a realm that have these tickets and are still open: its shard's lock is let go of after
+    /// so many.
+    fn write_sessions(
+        &self,
+        realm: u16,
+        tickets: &[u64],
+        writing: &mut Writing<Global>,
+    ) -> Result<(), AllocError>
+        ensures { OnOk result (GainsItems writing.old writing.new) }
     {
-        Ok(()) => {
-            tickets.sort_unstable();
-            Ok(tickets)
+        for few in tickets.chunks(SESSIONS_AT_ONCE) {
+            self.epoch
+                .hub
+                .save(self.rt, &self.seat, realm, few, writing)?;
         }
-        Err(_) => Err(AllocError),
+        Ok(())
     }
-}
 
-/// Writes a realm and its sessions, the oldest first.
-fn write_realm<R: Wait, H: HubCalls<N>, N: Opened>(
-    rt: &R,
-    shared: &Shared<'_, '_, H, N>,
-    seat: &Seat<Global, N>,
-    realm: u16,
-    writing: &mut Writing<Global>,
-) -> Result<(), AllocError>
-    ensures { OnOk result (GainsItems writing.old writing.new) }
-{
-    let tickets = begin_realm(rt, shared, seat, realm, writing)?;
-    write_sessions(rt, shared, seat, realm, tickets.as_slice(), writing)?;
-    Ok(())
-}
-
-/// Writes the realm of an index and its sessions, where it is here.
-#[tactic(auto, using(crate::proofs::GainLemmas::gains_none))]
-fn write_if_here<R: Wait, H: HubCalls<N>, N: Opened>(
-    rt: &R,
-    shared: &Shared<'_, '_, H, N>,
-    seat: &Seat<Global, N>,
-    index: usize,
-    writing: &mut Writing<Global>,
-) -> Result<(), AllocError>
-    requires { index < vec_len shared.now.config.now.realms }
-    ensures { OnOk result (GainsItems writing.old writing.new) }
-{
-    if shared.config.realms[index].gone {
-        return Ok(());
+    /// Writes a realm, and answers the tickets of its sessions, the oldest first.
+    fn begin_realm(&self, realm: u16, writing: &mut Writing<Global>) -> Result<Vec<u64>, AllocError>
+        ensures { OnOk result (GainsItems writing.old writing.new) }
+    {
+        let mut tickets = Vec::new(self.epoch.alloc);
+        match self
+            .epoch
+            .hub
+            .begin_saving(self.rt, &self.seat, realm, &mut tickets, writing)
+        {
+            Ok(()) => {
+                tickets.sort_unstable();
+                Ok(tickets)
+            }
+            Err(_) => Err(AllocError),
+        }
     }
-    write_realm(rt, shared, seat, index as u16, writing)?;
-    Ok(())
-}
 
-/// Writes the session tables of all realms that aren't gone, as a file keeps them.
-pub fn ledgers_of<R: Wait, H: HubCalls<N>, N: Opened>(
-    rt: &R,
-    shared: &Shared<'_, '_, H, N>,
-    seat: &Seat<Global, N>,
-) -> Result<Vec<u8>, AllocError>
-    ensures { IfOk result (λ octets. (items : List SavedItem) × (octets.items ≡ ledgers_text items)) }
-{
-    let mut writing = Writing::new(shared.alloc)?;
-    for index in 0..shared.config.realms.len() {
-        write_if_here(rt, shared, seat, index, &mut writing)?;
+    /// Writes a realm and its sessions, the oldest first.
+    fn write_realm(&self, realm: u16, writing: &mut Writing<Global>) -> Result<(), AllocError>
+        ensures { OnOk result (GainsItems writing.old writing.new) }
+    {
+        let tickets = self.begin_realm(realm, writing)?;
+        self.write_sessions(realm, tickets.as_slice(), writing)?;
+        Ok(())
     }
-    let octets = writing.finish()?;
-    Ok(octets)
+
+    /// Writes the realm of an index and its sessions, where it is here.
+    #[tactic(auto, using(crate::proofs::GainLemmas::gains_none))]
+    fn write_if_here(&self, index: usize, writing: &mut Writing<Global>) -> Result<(), AllocError>
+        requires { index < vec_len self.now.epoch.now.config.now.realms }
+        ensures { OnOk result (GainsItems writing.old writing.new) }
+    {
+        if self.epoch.config.realms[index].gone {
+            return Ok(());
+        }
+        self.write_realm(index as u16, writing)?;
+        Ok(())
+    }
+
+    /// Writes the session tables of all realms that aren't gone, as a file keeps them.
+    pub fn ledgers(&self) -> Result<Vec<u8>, AllocError>
+        ensures { IfOk result (λ octets. (items : List SavedItem) × (octets.items ≡ ledgers_text items)) }
+    {
+        let mut writing = Writing::new(self.epoch.alloc)?;
+        for index in 0..self.epoch.config.realms.len() {
+            self.write_if_here(index, &mut writing)?;
+        }
+        let octets = writing.finish()?;
+        Ok(octets)
+    }
 }

@@ -1,55 +1,40 @@
-//! The hub is closed, and what it kept is audited.
+//! An epoch's hub is closed, and what it kept is audited.
 
-ghost use Rattle.std.specs.Prelude.{◌≡◌, IfErr, IfOk, length};
+ghost use Rattle.std.specs.Prelude.{◌≡◌, IfErr, IfOk, OnOk, length};
 ghost use Rattle.roam_history.specs.Shown.{recorded};
-ghost use Rattle.roam_workers.specs.JobCounts.{AreAllTaken};
-ghost use Rattle.roam_epoch.specs.Closed.{EndsOf, MayGoOn};
+ghost use Rattle.roam_counters.specs.Datagrams.{with_all};
+ghost use Rattle.roam_epoch.specs.Closed.{EndCounted, EndsOf};
 ghost use Rattle.roam_sockets.specs.Faults.{IsAfterBinding};
-ghost use Rattle.roam_workers.specs.Endings.{job_counts_of};
+ghost use Rattle.roam_workers.specs.Endings.{datagrams_of};
+ghost use Rattle.roam_workers.specs.JobCounts.{AreAllTaken};
 
+use crate::carryover::Carryover;
 use crate::given_back::given_back;
-use crate::parts::Left;
-use crate::room::RunResult;
-use roam_admin_thread::HubEnd;
+use crate::room::EpochRoom;
 use roam_hub::{Audited, Hub, Opened, PauseRoom, Paused, PausedHub, Seat};
 use roam_sockets::ServeFault;
-use roam_workers::{Ended, LockedQueue};
 use std::alloc::Global;
 use std::sync::Wait;
 
-/// A hub that is open, with the memory with which it is paused.
-#[derive(Drop)]
-pub struct PausableHub<'c, N: Opened> {
-    pub hub: Hub<'c, Global, N>,
-    pub pause: PauseRoom<'c, Global, N>,
-}
-
-/// The rest of a hub that was closed: its report, which passed the audit, and its shards, by number.
-pub struct AuditedHub<N: Opened> {
-    pub audited: Audited<Global, N>,
-    pub shards: Vec<Paused<Global>>,
-}
-
-/// Closes a hub, and audits what it kept by the seats of its threads. Its shards stand where the histories end that
-/// were audited.
+/// Closes a hub with the memory for it, and audits what it kept by the seats of its threads. Its shards stand where the
+/// histories end that were audited: they come behind its report, which passed the audit.
 ///
 /// # Errors
 ///
 /// `Audit`, where it isn't passed, or a lock holds another shard's history.
-pub fn close_and_audit<R: Wait, N: Opened>(
+pub fn close_and_audit<'c, R: Wait, N: Opened>(
     rt: &R,
-    hub: PausableHub<'_, N>,
+    hub: Hub<'c, Global, N>,
+    pause: PauseRoom<'c, Global, N>,
     seats: Vec<Seat<Global, N>>,
-) -> Result<AuditedHub<N>, ServeFault>
-    ensures ends { IfOk result (λ closed.
-        EndsOf N.opening (recorded closed.audited.report) closed.shards.items) }
-    ensures seats { IfOk result (λ closed. closed.audited.seats ≡ seats) }
+) -> Result<(Audited<Global, N>, Vec<Paused<Global>>), ServeFault>
+    ensures ends { IfOk result (λ closed. EndsOf N.opening (recorded closed.0.report) closed.1.items) }
+    ensures seats { IfOk result (λ closed. closed.0.seats ≡ seats) }
     ensures err { IfErr result IsAfterBinding }
 {
-    let PausableHub { hub, pause } = hub;
     match hub.pause(rt, pause) {
         Ok(PausedHub { report, shards }) => match report.audited(seats) {
-            Ok(audited) => Ok(AuditedHub { audited, shards }),
+            Ok(audited) => Ok((audited, shards)),
             Err(_) => {
                 drop(shards);
                 Err(ServeFault::Audit)
@@ -62,74 +47,52 @@ pub fn close_and_audit<R: Wait, N: Opened>(
     }
 }
 
-/// Closes and audits a hub whose threads gave back what they had.
-///
-/// # Errors
-///
-/// `Audit`.
-fn close_ended<R: Wait, N: Opened>(
-    rt: &R,
-    hub: PausableHub<'_, N>,
-    end: HubEnd,
-    ended: Ended<N>,
-) -> Result<Left<N>, ServeFault>
-    requires { MayGoOn N.opening.config end }
-    ensures ends { IfOk result (λ left.
-        EndsOf N.opening (recorded left.closed.audited.report) left.closed.shards.items) }
-    ensures may { IfOk result (λ left. MayGoOn N.opening.config left.end) }
-    ensures err { IfErr result IsAfterBinding }
+/// Returns what is carried over of a hub that passed its audit: its shards, and its steps counted beside the others.
+fn with_audited<N: Opened>(
+    carry: Carryover,
+    audited: Audited<Global, N>,
+    shards: Vec<Paused<Global>>,
+) -> Carryover
+    requires { EndsOf N.opening (recorded audited.report) shards.items }
+    ensures ends { EndCounted N.opening carry.steps result.steps result.shards.items }
+    ensures datagrams { result.datagrams ≡ carry.datagrams }
 {
-    let Ended {
-        has_given_up: _,
-        datagrams,
-        jobs,
-        seats,
-        outboxes,
-        rests,
-    } = ended;
-    drop(jobs);
-    match close_and_audit(rt, hub, seats) {
-        Ok(closed) => Ok(Left {
-            end,
-            datagrams,
-            outboxes,
-            rests,
-            closed,
-        }),
-        Err(fault) => {
-            drop(end);
-            drop(outboxes);
-            drop(rests);
-            Err(fault)
-        }
-    }
+    let mut carry = carry;
+    carry.steps = carry.steps.saturating_add(audited.report().count_steps());
+    drop(audited);
+    carry.shards = shards;
+    carry
 }
 
-/// Closes and audits a hub whose threads have ended, and with it the queues of jobs between them.
+/// Closes and audits a hub whose threads have ended, and with it the queues of jobs between them. Returns what goes on
+/// to the next epoch.
 ///
 /// # Errors
 ///
 /// `Receive`, where a socket was given up, and `Audit`.
-pub fn close_after<R: Wait, N: Opened>(
+pub fn close_after<'c, R: Wait, N: Opened>(
     rt: &R,
-    hub: PausableHub<'_, N>,
-    queues: Vec<LockedQueue<N>>,
-    run: RunResult<N>,
-) -> Result<Left<N>, ServeFault>
-    requires { MayGoOn N.opening.config run.end }
-    ensures jobs { IfOk result (λ left.
-        AreAllTaken (λ v. v.items) (length queues.items) (job_counts_of run.results.ends.items)) }
-    ensures ends { IfOk result (λ left.
-        EndsOf N.opening (recorded left.closed.audited.report) left.closed.shards.items) }
-    ensures may { IfOk result (λ left. MayGoOn N.opening.config left.end) }
+    hub: Hub<'c, Global, N>,
+    pause: PauseRoom<'c, Global, N>,
+    room: EpochRoom<N>,
+) -> Result<Carryover, ServeFault>
+    ensures jobs { OnOk result (AreAllTaken (λ e. e.jobs.items) (length room.queues.items) room.ends.items) }
+    ensures ends { IfOk result (λ carry. EndCounted N.opening room.carry.steps carry.steps carry.shards.items) }
+    ensures datagrams { IfOk result (λ carry. carry.datagrams.counts
+        ≡ with_all room.carry.datagrams.counts (datagrams_of room.ends.items)) }
     ensures err { IfErr result IsAfterBinding }
 {
-    let RunResult { end, results } = run;
-    match given_back(results, queues) {
-        Ok(ended) => close_ended(rt, hub, end, ended),
+    match given_back(room) {
+        Ok((seats, carry)) => match close_and_audit(rt, hub, pause, seats) {
+            Ok((audited, shards)) => Ok(with_audited(carry, audited, shards)),
+            Err(fault) => {
+                drop(carry);
+                Err(fault)
+            }
+        },
         Err(fault) => {
-            drop(end);
             drop(hub);
+            drop(pause);
             Err(fault)
         }
     }

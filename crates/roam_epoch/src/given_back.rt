@@ -1,17 +1,18 @@
-//! The things that a hub's threads gave back.
+//! The things that an epoch's threads gave back.
 
-ghost use Rattle.std.specs.Prelude.{◌≡◌, ◌⊎◌, ◌↔◌, [], ◌∷◌, ◌++◌, IsTrue, IfOk, IfErr, OnOk, Contains, length};
-ghost use Rattle.roam_counters.specs.Datagrams.{all_of, both};
+ghost use Rattle.std.specs.Prelude.{◌≡◌, IfErr, IfOk, OnOk, Contains, length};
+ghost use Rattle.roam_counters.specs.Datagrams.{both, with_all};
 ghost use Rattle.roam_workers.specs.JobCounts.{AreAllTaken};
-ghost use Rattle.roam_workers.specs.Endings.{datagrams_of, endings_of, job_counts_of};
-ghost use Rattle.roam_workers.specs.declared.ending.Ending.TheVariants as ending;
+ghost use Rattle.roam_workers.specs.Endings.{datagrams_of, endings_of};
+ghost use Rattle.roam_workers.specs.declared.worker_result.ExitReason.TheVariants as ending;
 ghost use Rattle.roam_sockets.specs.Faults.{IsAfterBinding};
 
-use crate::room::Results;
-use roam_counters::Datagrams;
-use roam_hub::Opened;
+use crate::carryover::Carryover;
+use crate::room::EpochRoom;
+use roam_hub::{Opened, Seat};
 use roam_sockets::ServeFault;
-use roam_workers::{Ended, LockedQueue, Rests, WorkerEnd, audit_jobs, has_given_up_after};
+use roam_workers::{Rests, WorkerResult, audit_jobs, has_given_up};
+use std::alloc::Global;
 
 /// Returns the first of two, or the other one where it is missing.
 fn first_of(one: Option<Rests>, other: Option<Rests>) -> Option<Rests> {
@@ -24,94 +25,90 @@ fn first_of(one: Option<Rests>, other: Option<Rests>) -> Option<Rests> {
     }
 }
 
-/// Adds what one worker more gave back, in lists in which there is room for it.
-fn add<N: Opened>(ended: &mut Ended<N>, end: WorkerEnd<N>) -> Result<(), ServeFault>
-    ensures gave_up { IsTrue ended.new.has_given_up
-        ↔ (IsTrue ended.old.has_given_up ⊎ (end.ending ≡ ending.GaveUp)) }
-    ensures datagrams { ended.new.datagrams.counts ≡ both ended.old.datagrams.counts end.datagrams.counts }
-    ensures jobs { OnOk result (ended.new.jobs.items ≡ ended.old.jobs.items ++ end.jobs ∷ []) }
+/// Adds what one thread more gave back, in lists in which there is room for it.
+fn add<N: Opened>(
+    seats: &mut Vec<Seat<Global, N>>,
+    carry: &mut Carryover,
+    end: WorkerResult<N>,
+) -> Result<(), ServeFault>
+    ensures datagrams { carry.new.datagrams.counts ≡ both carry.old.datagrams.counts end.datagrams.counts }
+    ensures steps { carry.new.steps ≡ carry.old.steps }
     ensures err { IfErr result IsAfterBinding }
 {
-    let WorkerEnd {
-        ending,
+    let WorkerResult {
+        ending: _,
         datagrams,
         jobs,
         seat,
         outbox,
         rests,
     } = end;
-    ended.has_given_up = has_given_up_after(ended.has_given_up, ending);
-    ended.datagrams = ended.datagrams.and(datagrams);
-    ended.rests = first_of(rests, ended.rests.take());
-    ended.jobs.push(jobs)?;
-    ended.seats.push(seat)?;
-    ended.outboxes.push(outbox)?;
+    drop(jobs);
+    carry.datagrams = carry.datagrams.and(datagrams);
+    carry.rests = first_of(rests, carry.rests.take());
+    seats.push(seat)?;
+    carry.outboxes.push(outbox)?;
     Ok(())
 }
 
-/// Returns what the workers gave back, in lists in which there is room for it.
-fn gather<N: Opened>(results: Results<N>) -> Result<Ended<N>, ServeFault>
-    ensures gave_up { IfOk result (λ e. IsTrue e.has_given_up
-        ↔ Contains (endings_of results.ends.items) ending.GaveUp) }
-    ensures datagrams { IfOk result (λ e. e.datagrams.counts ≡ all_of (datagrams_of results.ends.items)) }
-    ensures jobs { IfOk result (λ e. e.jobs.items ≡ job_counts_of results.ends.items) }
+/// Adds what all threads gave back, in lists in which there is room for it.
+fn gather<N: Opened>(
+    ends: Vec<WorkerResult<N>>,
+    seats: Vec<Seat<Global, N>>,
+    carry: Carryover,
+) -> Result<(Vec<Seat<Global, N>>, Carryover), ServeFault>
+    ensures datagrams { IfOk result (λ g. g.1.datagrams.counts
+        ≡ with_all carry.datagrams.counts (datagrams_of ends.items)) }
+    ensures steps { IfOk result (λ g. g.1.steps ≡ carry.steps) }
     ensures err { IfErr result IsAfterBinding }
 {
-    let Results {
-        ends,
-        seats,
-        outboxes,
-        jobs,
-    } = results;
-    let datagrams = Datagrams::none();
-    let mut ended = Ended {
-        has_given_up: false,
-        datagrams,
-        jobs,
-        seats,
-        outboxes,
-        rests: None,
-    };
+    let mut seats = seats;
+    let mut carry = carry;
     for end in ends {
-        let added = add(&mut ended, end);
+        let added = add(&mut seats, &mut carry, end);
         if let Err(fault) = added {
-            drop(ended);
+            drop(seats);
+            drop(carry);
             return Err(fault);
         }
     }
-    Ok(ended)
+    Ok((seats, carry))
 }
 
-/// Returns what the workers gave back, where no socket was given up, and of each queue as many jobs were taken over
-/// as were handed on.
+/// Audits the jobs between threads that have ended, none of which gave up a socket: of each queue as many were taken
+/// over as were handed on. Returns the seats of all threads, and what goes on: the outboxes are those that the threads
+/// gave back, and what became of their datagrams is added.
 ///
 /// # Errors
 ///
 /// `Receive`, where a socket was given up; `Audit`, where a job was handed on that nobody took over, or that two did.
 pub fn given_back<N: Opened>(
-    results: Results<N>,
-    queues: Vec<LockedQueue<N>>,
-) -> Result<Ended<N>, ServeFault>
-    ensures jobs { IfOk result (λ e.
-        AreAllTaken (λ v. v.items) (length queues.items) (job_counts_of results.ends.items)) }
+    room: EpochRoom<N>,
+) -> Result<(Vec<Seat<Global, N>>, Carryover), ServeFault>
+    ensures jobs { OnOk result (AreAllTaken (λ e. e.jobs.items) (length room.queues.items) room.ends.items) }
+    ensures gave_up { OnOk result (Contains (endings_of room.ends.items) ending.GaveUp → ⊥) }
+    ensures datagrams { IfOk result (λ back. back.1.datagrams.counts
+        ≡ with_all room.carry.datagrams.counts (datagrams_of room.ends.items)) }
+    ensures steps { IfOk result (λ back. back.1.steps ≡ room.carry.steps) }
     ensures err { IfErr result IsAfterBinding }
 {
-    match gather(results) {
-        Ok(ended) => {
-            let are_taken = audit_jobs(queues, ended.jobs.as_slice());
-            if ended.has_given_up {
-                drop(ended);
-                Err(ServeFault::Receive)
-            } else if are_taken {
-                Ok(ended)
-            } else {
-                drop(ended);
-                Err(ServeFault::Audit)
-            }
-        }
-        Err(fault) => {
-            drop(queues);
-            Err(fault)
-        }
+    if has_given_up(room.ends.as_slice()) {
+        drop(room);
+        return Err(ServeFault::Receive);
     }
+    let EpochRoom {
+        mut carry,
+        queues,
+        handles,
+        ends,
+        seats,
+        outboxes,
+    } = room;
+    drop(handles);
+    if !audit_jobs(queues, ends.as_slice()) {
+        drop((carry, ends, seats, outboxes));
+        return Err(ServeFault::Audit);
+    }
+    carry.outboxes = outboxes;
+    gather(ends, seats, carry)
 }

@@ -1,30 +1,28 @@
 //! One epoch: the time under one configuration. Its hub is opened, its threads are made and run, and it is closed and
 //! audited.
 //!
-//! Begin with `serve_over`. While the others serve, the server's own thread attends to who asks (`roam_admin_thread`).
+//! Begin with `serve_epoch`. While the others serve, the server's own thread attends to who asks (`roam_admin_thread`).
 //!
 //! # Proved
 //!
 //! - of a hub that was closed: its histories were audited, the shards that are handed on stand where these end, and a
-//!   configuration that follows may | `serve_over`: `ends`, `may`; `close_and_audit`: `ends`; `Source::following`
+//!   configuration that follows may | `serve_epoch`: `ends`, `may`; `close_and_audit`: `ends`; `Source::following`
 //! - of threads that ended, for each shard as many jobs were handed on to its worker as that one took over, or the
 //!   audit fails | `close_after`: `jobs`; `given_back`
-//! - each call by which the threads ask a hub is the hub's own, with its contract: so what is proved of them over any
-//!   hub with these calls is proved over this one | `PausableHub`
+//! - what is carried over counts the steps of the histories that were audited, and what became of the datagrams that
+//!   all threads received, beside what it counted before | `close_after`: `ends`, `datagrams`
 #![tactic(auto)]
 
 mod audit;
-mod crew;
+mod carryover;
 mod given_back;
-mod hub_calls;
-mod open_hub;
-mod opening;
-mod parts;
 mod ready_threads;
 mod room;
 mod running;
+mod server_parts;
+mod serving;
 mod start;
-mod thread_parts;
 
-pub use open_hub::serve_over;
-pub use parts::{Means, Served, ServerParts, Unserved};
+pub use carryover::Carryover;
+pub use server_parts::ServerParts;
+pub use serving::serve_epoch;

@@ -1,30 +1,35 @@
-//! The threads of one configuration run, from their start to their end.
+//! The threads of one epoch run, from their start to their end.
 
 ghost use Rattle.roam_epoch.specs.Closed.{MayGoOn};
 
+use crate::carryover::Carryover;
 use crate::ready_threads::ReadyThreads;
-use crate::room::{RunResult, ThreadRoom};
-use crate::start::{attend, start_all};
-use log::Log;
-use roam_admin_thread::{Attendant, Handover, Source};
-use roam_hub::Opened;
-use roam_workers::HubCalls;
-use std::net::Net;
-use std::random::RandomSource;
-use std::sync::Wait;
+use crate::room::EpochRoom;
+use crate::start::{start_all, tell_start};
+use roam_admin_thread::{AdminThread, EpochEnd, Host, Source};
+use roam_hub::{HubCalls, Opened};
+use roam_sockets::ServeFault;
+use std::alloc::Global;
 use std::thread;
-use std::thread::{Scope, Threads};
-use std::time::Clock;
+use std::thread::Scope;
 
-/// The run of the threads of one configuration until they have ended: the threads, before they start, what this one has
-/// meanwhile, and room for what comes back.
-#[derive(Drop)]
-pub struct Run<'s, 'c, 'a, R, H, N: Opened, S> {
-    pub attendant: Attendant<'s, 'c, R, H, N>,
-    pub threads: ReadyThreads<'s, 'c, H, N>,
-    pub room: ThreadRoom<N>,
-    pub handover: Handover,
-    pub source: &'a mut S,
+/// Tells that the configuration is served, where all threads have started, and answers who asks for something until
+/// they end or another one is to follow.
+fn attend<R: Host, H: HubCalls<Global, N>, N: Opened, S: Source>(
+    have_started: bool,
+    admin_thread: &mut AdminThread<'_, '_, '_, R, H, N, S>,
+    carry: &mut Carryover,
+) -> EpochEnd
+    ensures { MayGoOn N.opening.config result }
+{
+    if !have_started {
+        return EpochEnd::Failed(ServeFault::Thread);
+    }
+    tell_start(admin_thread.rt, admin_thread.epoch, carry);
+    match admin_thread.run() {
+        Some(next) => EpochEnd::Follows(next),
+        None => EpochEnd::Over,
+    }
 }
 
 /// Runs the threads in a scope until they have ended. The logger ends with the scope.
@@ -33,33 +38,31 @@ fn run_within<
     'w: 's,
     'c: 's,
     E,
-    R: Threads + Wait + Clock + Net + RandomSource + Log + Sync,
-    H: HubCalls<N> + Sync,
+    R: Host,
+    H: HubCalls<Global, N> + Sync,
     N: Opened + Send + Sync,
     S: Source,
->(scope: &Scope<'s, E>, run: Run<'w, 'c, '_, R, H, N, S>) -> RunResult<N>
-    ensures { MayGoOn N.opening.config result.end }
+>(
+    scope: &Scope<'s, E>,
+    run: (
+        AdminThread<'w, 'c, '_, R, H, N, S>,
+        ReadyThreads<'w, 'c, H, N>,
+        EpochRoom<N>,
+    ),
+) -> (EpochEnd, EpochRoom<N>)
+    ensures { MayGoOn N.opening.config result.0 }
 {
-    let Run {
-        mut attendant,
-        threads,
-        room: ThreadRoom {
-            mut handles,
-            mut results,
-        },
-        handover,
-        source,
-    } = run;
-    let rt = attendant.rt;
-    let shared = attendant.shared;
-    let have_started = start_all(scope, rt, shared, threads, &mut handles);
-    let end = attend(have_started, &mut attendant, handover, source);
-    shared.end_all();
-    results.join_all(rt, handles);
-    attendant.keep_at_end(&end, source);
-    shared.logger.unpark();
-    results.keep_seat(attendant.seat);
-    RunResult { end, results }
+    let (mut admin_thread, threads, mut room) = run;
+    let rt = admin_thread.rt;
+    let epoch = admin_thread.epoch;
+    let have_started = start_all(scope, rt, epoch, threads, &mut room.handles);
+    let end = attend(have_started, &mut admin_thread, &mut room.carry);
+    epoch.end_all();
+    room.join_all(rt, epoch.alloc);
+    admin_thread.keep_at_end(&end);
+    epoch.logger.unpark();
+    room.keep_seat(admin_thread.seat);
+    (end, room)
 }
 
 /// Runs the threads until they have ended, or until a configuration comes that is to follow. Once all run it is told
@@ -69,19 +72,24 @@ fn run_within<
 pub fn run_threads<
     's,
     'c,
-    R: Threads + Wait + Clock + Net + RandomSource + Log + Sync,
-    H: HubCalls<N> + Sync,
+    R: Host,
+    H: HubCalls<Global, N> + Sync,
     N: Opened + Send + Sync,
     S: Source,
->(run: Run<'s, 'c, '_, R, H, N, S>) -> RunResult<N>
-    ensures { MayGoOn N.opening.config result.end }
+>(
+    admin_thread: AdminThread<'s, 'c, '_, R, H, N, S>,
+    threads: ReadyThreads<'s, 'c, H, N>,
+    room: EpochRoom<N>,
+) -> (EpochEnd, EpochRoom<N>)
+    ensures { MayGoOn N.opening.config result.0 }
 {
-    let rt = run.attendant.rt;
+    let rt = admin_thread.rt;
+    let run = (admin_thread, threads, room);
     thread::scope(
         thread::scope_env(),
         rt,
-        move |scope| -> RunResult<N>
-            ensures { MayGoOn N.opening.config result.end }
+        move |scope| -> (EpochEnd, EpochRoom<N>)
+            ensures { MayGoOn N.opening.config result.0 }
         { run_within(scope, run) },
     )
 }

@@ -1,20 +1,17 @@
 //! The threads start, and it is told that they have.
 
-ghost use Rattle.roam_epoch.specs.Closed.{MayGoOn};
-
+use crate::carryover::Carryover;
 use crate::ready_threads::ReadyThreads;
 use log::Log;
-use roam_admin::{Course, Reply};
-use roam_admin_thread::{Attendant, Handover, HubEnd, Source};
-use roam_hub::Opened;
+use roam_admin::{AdminReply, ReplyStatus};
+use roam_hub::{HubCalls, Opened};
 use roam_log::ReloadEnd;
 use roam_logger::{log_notices, serving, tell_or_drop, tell_reload};
-use roam_sockets::{ServeFault, now};
-use roam_workers::{HubCalls, Shared, Worker, WorkerEnd, receive_on, tick_on};
+use roam_sockets::now;
+use roam_workers::{Epoch, Worker, WorkerResult, receive_on, tick_on};
 use std::alloc::Global;
-use std::net::Net;
 use std::sync::Wait;
-use std::thread::{JoinHandle, Scope, SpawnError, Threads};
+use std::thread::{JoinHandle, Scope, SpawnError};
 use std::time::Clock;
 
 /// Returns whether a thread has started that nobody joins by its handle. What wasn't started ends here, by one call.
@@ -24,8 +21,8 @@ fn has_started<T: Drop, F: Drop>(started: Result<JoinHandle<T>, SpawnError<F>>) 
 
 /// Keeps the handle of a thread, where it has started. Answers whether it has.
 fn is_kept<F: Drop, N: Opened>(
-    handles: &mut Vec<JoinHandle<WorkerEnd<N>>>,
-    started: Result<JoinHandle<WorkerEnd<N>>, SpawnError<F>>,
+    handles: &mut Vec<JoinHandle<WorkerResult<N>>>,
+    started: Result<JoinHandle<WorkerResult<N>>, SpawnError<F>>,
 ) -> bool {
     match started {
         Ok(handle) => handles.push(handle).is_ok(),
@@ -40,18 +37,17 @@ fn start_workers<
     'c: 's,
     E,
     R: Wait + Clock + Sync,
-    H: HubCalls<N> + Sync,
+    H: HubCalls<Global, N> + Sync,
     N: Opened + Send + Sync,
 >(
     scope: &Scope<'s, E>,
     rt: &'s R,
-    alloc: Global,
     workers: Vec<Worker<'w, 'c, H, N>>,
-    handles: &mut Vec<JoinHandle<WorkerEnd<N>>>,
+    handles: &mut Vec<JoinHandle<WorkerResult<N>>>,
 ) -> bool {
     let mut have_started = true;
     for worker in workers {
-        let started = scope.spawn(move || receive_on(rt, alloc, worker));
+        let started = scope.spawn(move || receive_on(rt, worker));
         have_started = is_kept(handles, started) && have_started;
     }
     have_started
@@ -64,35 +60,37 @@ pub fn start_all<
     'c: 's,
     E,
     R: Wait + Clock + Log + Sync,
-    H: HubCalls<N> + Sync,
+    H: HubCalls<Global, N> + Sync,
     N: Opened + Send + Sync,
 >(
     scope: &Scope<'s, E>,
     rt: &'s R,
-    shared: &'s Shared<'w, 'c, H, N>,
+    epoch: &'s Epoch<'w, 'c, H, N>,
     prepared: ReadyThreads<'w, 'c, H, N>,
-    handles: &mut Vec<JoinHandle<WorkerEnd<N>>>,
+    handles: &mut Vec<JoinHandle<WorkerResult<N>>>,
 ) -> bool {
     let ReadyThreads {
         workers,
         timer,
         logger,
     } = prepared;
+    let counts = epoch.timer_counts();
     let logs = has_started(scope.spawn(move || log_notices(
         rt,
-        shared.config,
-        shared.logger,
+        epoch.config,
+        counts,
+        &epoch.logger,
         logger,
     )));
-    let work = start_workers(scope, rt, shared.alloc, workers, handles);
+    let work = start_workers(scope, rt, workers, handles);
     let ticks = is_kept(handles, scope.spawn(move || tick_on(rt, timer)));
     ticks && work && logs
 }
 
 /// Returns how a reload went, by what is answered.
-fn reload_end(course: Course) -> ReloadEnd {
-    match course {
-        Course::Done => ReloadEnd::Done,
+fn reload_end(status: ReplyStatus) -> ReloadEnd {
+    match status {
+        ReplyStatus::Done => ReloadEnd::Done,
         _ => ReloadEnd::Declined,
     }
 }
@@ -100,15 +98,15 @@ fn reload_end(course: Course) -> ReloadEnd {
 /// Tells how a reload went, counts it, and answers who asked for it, where that one still waits.
 fn tell_reply<R: Wait + Clock + Log, H, N: Opened>(
     rt: &R,
-    shared: &Shared<'_, '_, H, N>,
-    reply: Reply,
+    epoch: &Epoch<'_, '_, H, N>,
+    reply: AdminReply,
     is_awaited: bool,
 ) {
-    let office = shared.office;
-    tell_reload(rt, reload_end(reply.course), reply.body.as_slice());
-    office.count_reload(reply.course, now(rt, office.start, 0));
+    let admin = epoch.admin;
+    tell_reload(rt, reload_end(reply.status), reply.body.as_slice());
+    admin.count_reload(reply.status, now(rt, admin.start, 0));
     if is_awaited {
-        office.control.answer(rt, reply);
+        admin.control.answer(rt, reply);
     } else {
         drop(reply);
     }
@@ -116,36 +114,14 @@ fn tell_reply<R: Wait + Clock + Log, H, N: Opened>(
 
 /// Tells that a configuration is served, and how the reload went where one was asked for, answers who did, and closes
 /// what the one of before had.
-fn tell_start<R: Wait + Clock + Log, H, N: Opened>(
+pub fn tell_start<R: Wait + Clock + Log, H, N: Opened>(
     rt: &R,
-    shared: &Shared<'_, '_, H, N>,
-    handover: Handover,
+    epoch: &Epoch<'_, '_, H, N>,
+    carry: &mut Carryover,
 ) {
-    let (reply, before, is_awaited) = handover.into_parts();
-    tell_or_drop(rt, shared.config, serving(shared.config));
-    drop(before);
-    match reply {
-        Some(reply) => tell_reply(rt, shared, reply, is_awaited),
-        None => {}
-    }
-}
-
-/// Tells that the configuration is served, where all threads have started, and answers who asks for something until
-/// they end or another one is to follow.
-pub fn attend<R: Threads + Wait + Clock + Net + Log + Sync, H: HubCalls<N>, N: Opened, S: Source>(
-    have_started: bool,
-    attendant: &mut Attendant<'_, '_, R, H, N>,
-    handover: Handover,
-    source: &mut S,
-) -> HubEnd
-    ensures { MayGoOn N.opening.config result }
-{
-    if !have_started {
-        return HubEnd::Failed(ServeFault::Thread, handover);
-    }
-    tell_start(attendant.rt, attendant.shared, handover);
-    match attendant.attend(source) {
-        Some(next) => HubEnd::Follows(next),
-        None => HubEnd::Over,
+    tell_or_drop(rt, epoch.config, serving(epoch.config));
+    drop(carry.before.take());
+    if let Some(reply) = carry.reply.take() {
+        tell_reply(rt, epoch, reply, carry.is_awaited);
     }
 }

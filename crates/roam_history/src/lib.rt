@@ -1,6 +1,7 @@
 //! The answers to a hub's calls, and what is recorded of them, without the hub.
 //!
-//! The hub stands on it, and so does who works for one (`roam_workers`), which names no hub and is proved beside it.
+//! The hub stands on it, and so does who works for one (`roam_workers`), which names no hub and is proved beside it: the
+//! calls of the one to the other are stated here, as [`HubCalls`].
 //!
 //! - At which moment a shard is ticked, so that one tick has few entries to work off.
 //! - One history of each shard, for all threads: what was written into it, as far as each of them has seen it, until it
@@ -10,7 +11,7 @@
 //!   its calls, and how often it let go of stored steps; a [`Receipt`] says under which number a call was recorded, and
 //!   a [`Report`] has what was recorded, of which an [`Audited`] one passed its audit.
 //!
-//! Nothing here changes a shard, or touches a thread, a lock, a socket or a clock.
+//! Nothing here changes a shard, or touches a thread, a lock, a socket or a clock. Who calls a hub waits for a lock of it.
 //!
 //! # Proved
 //!
@@ -41,9 +42,11 @@ mod audit_fault;
 mod audited;
 mod blank;
 mod blanks;
+mod call;
 mod fault;
 mod front;
 mod head;
+mod hub_calls;
 mod moment;
 mod opened;
 mod receipt;
@@ -59,9 +62,11 @@ pub use audit_fault::AuditFault;
 pub use audited::Audited;
 pub use blank::Blank;
 pub use blanks::Blanks;
+pub use call::Call;
 pub use fault::HubFault;
 pub use front::Front;
 pub use head::Head;
+pub use hub_calls::HubCalls;
 pub use moment::{LATE, MOST, moment_of_tick};
 pub use opened::Opened;
 pub use receipt::Receipt;

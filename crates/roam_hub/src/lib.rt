@@ -59,22 +59,19 @@
 #![tactic(auto)]
 
 mod bounds;
-mod call;
+mod calls;
 mod closing;
 mod gate;
 mod hub;
 mod laws;
 mod locked_trace;
 mod locking;
-mod look;
 mod opening;
 mod pause_room;
 mod pausing;
-mod saving;
 mod writing;
 
 pub use bounds::{bounded_in_histories, bounded_waits_in_histories, waits_in_histories};
-pub use call::Call;
 pub use gate::{Gate, Open};
 pub use hub::Hub;
 pub use laws::{
@@ -85,8 +82,8 @@ pub use pause_room::PauseRoom;
 pub use pausing::PausedHub;
 pub use roam_exchange::{Became, DueHappening, Happening, LeftConversation, Waited};
 pub use roam_history::{
-    Answered, AuditFault, Audited, Blanks, Front, HubFault, LATE, MOST, Opened, Receipt, Refused,
-    Report, Seat, Ticked, split,
+    Answered, AuditFault, Audited, Blanks, Call, Front, HubCalls, HubFault, LATE, MOST, Opened,
+    Receipt, Refused, Report, Seat, Ticked, split,
 };
 pub use roam_pending::{Key, Requester};
 pub use roam_realm::{Gauges, Rest, SERVER_LINKS};

@@ -18,11 +18,10 @@ mod due;
 mod saving;
 mod standing;
 
-use crate::call::Call;
 use crate::writing::{closed, recorded, without_steps};
 use roam_admission::Job;
 use roam_exchange::Turned;
-use roam_history::{Answered, Front, Head, HubFault, LastStep, Opened, Refused, Seat};
+use roam_history::{Answered, Call, Front, Head, HubFault, LastStep, Opened, Refused, Seat};
 use roam_shard::{Shard, Step, Traced};
 use std::alloc::Allocator;
 use std::marker::Model;
@@ -126,9 +125,10 @@ impl<'c, A: Allocator + Copy, N: Opened> LockedTrace<'c, A, N> {
     ///
     /// `Misplaced` where this isn't the shard's trace; else `TraceFull` just where as many steps as its
     /// limit are stored; else `NoMemory` where a growth was refused. Nothing is recorded then.
-    pub(crate) fn take<R: Wait, G>(
+    pub(crate) fn take<R: Wait>(
         &mut self,
-        call: Call<'_, R, G>,
+        rt: &R,
+        call: Call,
         seat: &mut Seat<A, N>,
         shard: u16,
         job: Job<A>,
@@ -136,10 +136,10 @@ impl<'c, A: Allocator + Copy, N: Opened> LockedTrace<'c, A, N> {
         requires shard { shard < N.opening.config.shards }
         requires event { IsEvent N.opening.config (shown_job job) }
         requires own { is_in_shard N.opening.config shard job.realm ≡ true }
-        ensures calls { Calls N.opening call.entry.lines shard call.entry.moment (shown_job job) seat.old seat.new
+        ensures calls { Calls N.opening call.lines shard call.moment (shown_job job) seat.old seat.new
             result }
         ensures one { IfOk result (λ a. self.new.front.entries ≡ self.old.front.entries
-            ++ step_entry (answered_step (arrives call.entry.moment (arrival_of (shown_job job))) a) ∷ []) }
+            ++ step_entry (answered_step (arrives call.moment (arrival_of (shown_job job))) a) ∷ []) }
     {
         if let Err(fault) = self.check(seat, shard) {
             return Err(Refused { fault, job });
@@ -153,7 +153,7 @@ impl<'c, A: Allocator + Copy, N: Opened> LockedTrace<'c, A, N> {
                     traced,
                     answer: &answer,
                 };
-                let number = recorded(call.rt, seat, &self.head, front, &last);
+                let number = recorded(rt, seat, &self.head, front, &last);
                 Ok(Answered {
                     shard,
                     number,
@@ -175,22 +175,23 @@ impl<'c, A: Allocator + Copy, N: Opened> LockedTrace<'c, A, N> {
     /// # Errors
     ///
     /// As `take`.
-    pub(crate) fn tick<R: Wait, G>(
+    pub(crate) fn tick<R: Wait>(
         &mut self,
-        call: Call<'_, R, G>,
+        rt: &R,
+        call: Call,
         seat: &mut Seat<A, N>,
         shard: u16,
     ) -> Result<Answered<A>, HubFault>
         requires { shard < N.opening.config.shards }
         ensures call { IfOk result (λ a. IsCall N.opening shard seat.old seat.new a.number
-            (answered_step (ticks call.entry.moment shard) a)) }
+            (answered_step (ticks call.moment shard) a)) }
         ensures one { IfOk result (λ a. self.new.front.entries ≡ self.old.front.entries
-            ++ step_entry (answered_step (ticks call.entry.moment shard) a) ∷ []) }
+            ++ step_entry (answered_step (ticks call.moment shard) a) ∷ []) }
         ensures all { OnOk result (front_of seat.new shard ≡ self.new.front.entries) }
         ensures ends { OnOk result (self.new.trace.states
             ≡ end_of (opening_at N.opening shard) (steps_in self.new.front.entries)) }
-        ensures happened { IfOk result (λ a. HasHappened N.opening call.entry.lines shard seat.new
-            (ticks call.entry.moment shard) (shown_happening a.happening)) }
+        ensures happened { IfOk result (λ a. HasHappened N.opening call.lines shard seat.new
+            (ticks call.moment shard) (shown_happening a.happening)) }
         ensures shard { IfOk result (λ a. a.shard ≡ shard) }
         ensures octets { IfOk result (λ a. a.octets
             ≡ min (octets_in (events_of (stored_of (front_of seat.new shard)))) (2 ^ 64 - 1)) }
@@ -210,7 +211,7 @@ impl<'c, A: Allocator + Copy, N: Opened> LockedTrace<'c, A, N> {
                     traced,
                     answer: &answer,
                 };
-                let number = recorded(call.rt, seat, &self.head, front, &last);
+                let number = recorded(rt, seat, &self.head, front, &last);
                 Ok(Answered {
                     shard,
                     number,

@@ -31,7 +31,7 @@ mod state_lines;
 
 pub use ended::{local_reject_of, local_response_of, nak_of, origin_of};
 pub use exchanges::{Exchanges, queue_of_lines};
-pub use logger::{ExchangeQueues, Logger, log_notices, tell_or_drop};
+pub use logger::{Logger, log_notices, tell_or_drop};
 pub use notice::{Answering, Notice, notices_in, serving, tell};
 pub use notices::{Notices, queue_of_notices};
 pub use reload_lines::{tell_dropped, tell_reload};

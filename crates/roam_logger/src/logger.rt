@@ -8,6 +8,7 @@ use roam_counters::Process;
 use roam_log::{Exchange, StationForm, push_exchange};
 use roam_outgoing::ThreadCounts;
 use rtrb::Consumer;
+use std::alloc::{AllocError, Global};
 use std::str;
 use std::sync::Wait;
 use std::thread::Parker;
@@ -18,6 +19,9 @@ const OCTETS_AT_ONCE: usize = 24_000;
 
 /// The number of lines that are written at once.
 const LINES_AT_ONCE: u32 = 64;
+
+/// The number of octets of lines for which room is made at the start.
+const LINE: usize = 4096;
 
 /// Tells a notice where the log has room for it. Answers whether it has.
 pub fn tell_or_drop<R: Log>(rt: &R, config: &Config, notice: Notice) -> bool {
@@ -134,14 +138,15 @@ fn empty_lines<R: Wait + Log>(
 fn empty_all_lines<R: Wait + Log>(
     rt: &R,
     config: &Config,
+    counts: &Option<ThreadCounts<'_>>,
     line: &mut Vec<u8>,
-    lines: &mut ExchangeQueues<'_>,
+    lines: &mut ExchangeQueues,
 ) {
     let stations = lines.stations;
     for queue in lines.queues.iter_mut() {
         let dropped = empty_lines(rt, config, &stations, line, queue);
         lines.dropped = lines.dropped.saturating_add(dropped);
-        if let Some(counts) = &lines.counts {
+        if let Some(counts) = counts {
             counts.process(Process::LineDropped, dropped);
         }
     }
@@ -151,23 +156,20 @@ fn empty_all_lines<R: Wait + Log>(
 }
 
 /// The queues of lines of exchanges.
-pub struct ExchangeQueues<'s> {
-    pub queues: Vec<Consumer<Exchange>>,
+struct ExchangeQueues {
+    queues: Vec<Consumer<Exchange>>,
     /// The form of a Calling-Station-Id in lines.
-    pub stations: StationForm,
-    /// The counts of what is dropped.
-    pub counts: Option<ThreadCounts<'s>>,
+    stations: StationForm,
     /// The number that were dropped and aren't reported yet.
-    pub dropped: u64,
+    dropped: u64,
 }
 
 // By hand, so that a proof sees one call wherever it ends, and the crates above prove nothing of it.
-impl<'s> Drop for ExchangeQueues<'s> {
+impl Drop for ExchangeQueues {
     fn drop(self) {
         let Self {
             queues,
             stations: _,
-            counts: _,
             dropped: _,
         } = self;
         drop(queues);
@@ -184,15 +186,15 @@ fn are_abandoned(queues: &mut [Consumer<Notice>]) -> bool {
 }
 
 /// The parts that the logger takes with it.
-pub struct Logger<'s> {
-    pub queues: Vec<Consumer<Notice>>,
-    pub lines: ExchangeQueues<'s>,
+pub struct Logger {
+    queues: Vec<Consumer<Notice>>,
+    lines: ExchangeQueues,
     /// Lines of exchanges are built in it.
-    pub line: Vec<u8>,
+    line: Vec<u8>,
 }
 
 // By hand, so that a proof sees one call wherever it ends, and the crates above prove nothing of it.
-impl<'s> Drop for Logger<'s> {
+impl Drop for Logger {
     fn drop(self) {
         let Self {
             queues,
@@ -205,9 +207,35 @@ impl<'s> Drop for Logger<'s> {
     }
 }
 
-impl<'s> Logger<'s> {
+impl Logger {
+    /// Makes a logger without a queue, in whose lines a Calling-Station-Id has this form.
+    pub fn new(alloc: Global, stations: StationForm) -> Result<Logger, AllocError> {
+        Ok(Logger {
+            queues: Vec::new(alloc),
+            lines: ExchangeQueues {
+                queues: Vec::new(alloc),
+                stations,
+                dropped: 0,
+            },
+            line: Vec::with_capacity(alloc, LINE)?,
+        })
+    }
+
+    /// Gives it its ends of the queues of one thread: of notices, and of lines where these are told.
+    pub fn add_queues(
+        &mut self,
+        notices: Consumer<Notice>,
+        lines: Option<Consumer<Exchange>>,
+    ) -> Result<(), AllocError> {
+        self.queues.push(notices)?;
+        if let Some(lines) = lines {
+            self.lines.queues.push(lines)?;
+        }
+        Ok(())
+    }
+
     /// Returns the queues of notices, those of lines, and the buffer in which lines are built.
-    fn into_parts(self) -> (Vec<Consumer<Notice>>, ExchangeQueues<'s>, Vec<u8>) {
+    fn into_parts(self) -> (Vec<Consumer<Notice>>, ExchangeQueues, Vec<u8>) {
         let Self {
             queues,
             lines,
@@ -217,8 +245,14 @@ impl<'s> Logger<'s> {
     }
 }
 
-/// Tells what lies in the queues until their workers have ended.
-pub fn log_notices<R: Wait + Log>(rt: &R, config: &Config, wake: &Parker, logger: Logger<'_>) {
+/// Tells what lies in the queues until their workers have ended, and counts the lines that are dropped.
+pub fn log_notices<R: Wait + Log>(
+    rt: &R,
+    config: &Config,
+    counts: Option<ThreadCounts<'_>>,
+    wake: &Parker,
+    logger: Logger,
+) {
     let (mut queues, mut lines, mut line) = logger.into_parts();
     let mut dropped = 0u64;
     for _ in rt.forever() {
@@ -226,7 +260,7 @@ pub fn log_notices<R: Wait + Log>(rt: &R, config: &Config, wake: &Parker, logger
         for queue in queues.iter_mut() {
             dropped = dropped.saturating_add(empty(rt, config, queue));
         }
-        empty_all_lines(rt, config, &mut line, &mut lines);
+        empty_all_lines(rt, config, &counts, &mut line, &mut lines);
         if dropped > 0 && tell_or_drop(rt, config, Notice::Dropped(dropped)) {
             dropped = 0;
         }

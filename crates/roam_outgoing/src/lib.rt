@@ -30,8 +30,8 @@ mod destination;
 mod event_counts;
 mod laws;
 mod losses;
-mod old_history;
 mod outgoing;
+mod reclaimer;
 mod room;
 mod sheet;
 
@@ -41,5 +41,5 @@ pub use counting::Counting;
 pub use event_counts::EventCounts;
 pub use laws::given_goes_or_waits;
 pub use losses::{CAUSES, SharedLosses};
-pub use old_history::{OldHistory, Steps};
-pub use outgoing::{Outgoing, ROOM_EVENTS, RoomEvents};
+pub use outgoing::{Outgoing, ROOM_EVENTS, RoomEvents, SentCounts};
+pub use reclaimer::{Reclaimer, Steps};

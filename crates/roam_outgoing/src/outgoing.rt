@@ -37,6 +37,14 @@ impl Drop for RoomEvents {
     }
 }
 
+/// The places where it is counted what became of a thread's packets.
+#[derive(Clone, Copy)]
+pub struct SentCounts<'s> {
+    pub losses: &'s SharedLosses,
+    /// The counts of what was sent, where somebody reads them.
+    pub counts: Option<ThreadCounts<'s>>,
+}
+
 /// The packets of a thread that are to leave, and the sockets from which they do.
 ///
 /// A socket without room is handed nothing more until it has some: the system is asked once, each time, to tell so.
@@ -44,9 +52,7 @@ pub struct Outgoing<'s> {
     pub(crate) outbox: Outbox<Global>,
     /// In the order of their numbers.
     pub(crate) ports: Vec<PlaceSockets<Socket<'s>>>,
-    losses: &'s SharedLosses,
-    /// The counts of what was sent, where somebody reads them.
-    counts: Option<ThreadCounts<'s>>,
+    counts: SentCounts<'s>,
     pub(crate) room: RoomEvents,
     /// The number of sockets that had no room and are watched.
     pub(crate) watched: usize,
@@ -61,7 +67,6 @@ impl<'s> Drop for Outgoing<'s> {
         let Self {
             outbox,
             ports,
-            losses: _,
             counts: _,
             room,
             watched: _,
@@ -87,7 +92,6 @@ impl<'s> Outgoing<'s> {
         let Self {
             outbox,
             ports,
-            losses: _,
             counts: _,
             room,
             watched: _,
@@ -104,9 +108,8 @@ impl<'s> Outgoing<'s> {
         alloc: Global,
         before: Outbox<Global>,
         ports: Vec<PlaceSockets<Socket<'s>>>,
-        losses: &'s SharedLosses,
-        counts: Option<ThreadCounts<'s>>,
         room: RoomEvents,
+        counts: SentCounts<'s>,
     ) -> Result<Outgoing<'s>, NoMemory>
         ensures { IfOk result (λ o. port_count before ≤ vec_len ports.entry → PutsEach [] before (outbox_in o)) }
     {
@@ -114,7 +117,6 @@ impl<'s> Outgoing<'s> {
         let mut outgoing = Outgoing {
             outbox,
             ports,
-            losses,
             counts,
             room,
             watched: 0,
@@ -202,7 +204,7 @@ impl<'s> Outgoing<'s> {
     {
         self.watch(sent.is_blocked);
         let account = self.outbox.take_account();
-        self.losses.add(account.losses);
+        self.counts.losses.add(account.losses);
         self.note_unreachable(account.losses.unreachable);
         self.count_sent(account);
     }
@@ -215,7 +217,7 @@ impl<'s> Outgoing<'s> {
             return;
         };
         if let Some(to) = port.take_unreachable() {
-            self.losses.note(to);
+            self.counts.losses.note(to);
         }
     }
 
@@ -233,7 +235,7 @@ impl<'s> Outgoing<'s> {
 
     /// Has it counted what became of packets, where somebody reads that.
     fn count_sent(&self, account: Account) {
-        if let Some(counts) = &self.counts {
+        if let Some(counts) = &self.counts.counts {
             counts.sent(account);
         }
     }

@@ -19,3 +19,4 @@ mod state_file;
 mod station_key;
 
 pub use program::command;
+pub use roam_server::Host;

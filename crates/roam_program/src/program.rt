@@ -7,29 +7,24 @@ ghost use Rattle.roam_cli.specs.Outcomes.{IsAnswered, IsPrevented, IsToldFault, 
 ghost use Rattle.roam_cli.specs.Report.{Says};
 
 use crate::serving::serve_file;
-use log::Log;
 use roam_cli::{
     Command, Fault, ProgramEnd, ask, check_file, compare_files, simulate_files, state_file,
     tell_advice, tell_usage, tell_version, unknown_word, untimed_word,
 };
 use roam_diagnosis::Lines;
 use roam_keeping::KeepsFiles;
+use roam_server::Host;
 use std::convert::AsStr;
 use std::io::Write;
-use std::net::Net;
-use std::random::RandomSource;
 use std::rt::Files;
-use std::sync::Wait;
-use std::thread::Threads;
-use std::time::Clock;
 
 /// Does what the words ask for. `lines` are then what is said of the configuration.
-fn run<
-    'a,
-    R: Files + AllocGlobal + KeepsFiles + Threads + Wait + Clock + Net + RandomSource + Log + Sync,
-    S: AsStr,
-    W: Write,
->(rt: &R, words: &'a [S], out: &mut W, lines: &mut Lines) -> Result<(), Fault<'a>>
+fn run<'a, R: Files + AllocGlobal + KeepsFiles + Host, S: AsStr, W: Write>(
+    rt: &R,
+    words: &'a [S],
+    out: &mut W,
+    lines: &mut Lines,
+) -> Result<(), Fault<'a>>
     ensures ok { OnOk result
         (IsAnswered (map S.text words.now) (W.contents out.old) (W.contents out.new)) }
     ensures err { IfErr result
@@ -76,12 +71,12 @@ fn run<
 }
 
 /// Does what the words ask for, and tells the fault that prevents it, and what is said of the configuration.
-fn answer<
-    R: Files + AllocGlobal + KeepsFiles + Threads + Wait + Clock + Net + RandomSource + Log + Sync,
-    S: AsStr,
-    W: Write,
-    E: Write,
->(rt: &R, words: &[S], out: &mut W, err: &mut E) -> ProgramEnd
+fn answer<R: Files + AllocGlobal + KeepsFiles + Host, S: AsStr, W: Write, E: Write>(
+    rt: &R,
+    words: &[S],
+    out: &mut W,
+    err: &mut E,
+) -> ProgramEnd
     ensures status { result.status ≤ 4 }
     ensures done { result.status ≡ 0
         → IsAnswered (map S.text words.now) (W.contents out.old) (W.contents out.new) }
@@ -108,12 +103,12 @@ fn answer<
 /// Each fault says what it leaves of `out`: all is as it was, but for what went out before a refused write, and
 /// for the lines of a simulation that lost events for want of memory. A server leaves it as it was, and of what its
 /// sockets take and give nothing is said; without a number of milliseconds it ends by a fault alone.
-pub fn command<
-    R: Files + AllocGlobal + KeepsFiles + Threads + Wait + Clock + Net + RandomSource + Log + Sync,
-    S: AsStr,
-    W: Write,
-    E: Write,
->(rt: &R, words: &[S], out: &mut W, err: &mut E) -> u8
+pub fn command<R: Files + AllocGlobal + KeepsFiles + Host, S: AsStr, W: Write, E: Write>(
+    rt: &R,
+    words: &[S],
+    out: &mut W,
+    err: &mut E,
+) -> u8
     ensures status { result ≤ 4 }
     ensures done { result ≡ 0
         → IsAnswered (map S.text words.now) (W.contents out.old) (W.contents out.new) }

@@ -12,21 +12,18 @@ ghost use Rattle.roam_cli.specs.Outcomes.{Prevents};
 use crate::reload::Reread;
 use crate::state_file::{StateFiles, manner_of};
 use crate::station_key::told_stations;
-use log::Log;
 use roam_cli::{Fault, TextFile};
 use roam_conf::Config;
 use roam_conf_reader::{Settings, read_config_and_settings};
 use roam_diagnosis::{Lines, diagnose};
 use roam_keeping::KeepsFiles;
 use roam_server::{
-    Build, ControlSocket, Manner, ServeFault, ServeOptions, SocketPath, Watch, descriptors_wanted,
-    reason_of, serve, with_drawn_seed,
+    Build, ControlSocket, Host, Manner, ServeFault, ServeOptions, SocketPath, Watch,
+    descriptors_wanted, reason_of, serve, with_drawn_seed,
 };
 use std::net::Net;
 use std::random::RandomSource;
 use std::rt::Files;
-use std::sync::Wait;
-use std::thread::Threads;
 use std::time::Clock;
 
 /// Binds the control socket, where one is wanted.
@@ -59,32 +56,9 @@ fn remove<R: Files>(rt: &R, socket: &Option<ControlSocket>, settings: &Settings)
     }
 }
 
-/// Serves a configuration. What the server does is counted where somebody may ask for the counts.
-fn serve_watched<
-    R: Files + AllocGlobal + KeepsFiles + Threads + Wait + Clock + Net + RandomSource + Log + Sync,
->(
-    rt: &R,
-    config: Config,
-    watch: Option<Watch<'_>>,
-    manner: Manner,
-    milliseconds: Option<u64>,
-    source: &mut Reread<'_, R>,
-) -> Result<(), ServeFault>
-    ensures { IfErr result (IsFaultOf (shown config)) }
-{
-    let options = ServeOptions {
-        watch,
-        manner,
-        milliseconds,
-    };
-    serve(rt, rt.alloc(), config, options, source)
-}
-
 /// Serves a configuration, once there is the control socket that is wanted. The server counts what it does, since
 /// somebody may ask for the counts.
-fn serve_asked<
-    R: Files + AllocGlobal + KeepsFiles + Threads + Wait + Clock + Net + RandomSource + Log + Sync,
->(
+fn serve_asked<R: Files + AllocGlobal + KeepsFiles + Host>(
     rt: &R,
     config: Config,
     manner: Manner,
@@ -102,7 +76,12 @@ fn serve_asked<
                 control: socket.as_ref(),
                 build: Build::Roam,
             };
-            let ended = serve_watched(rt, config, Some(watch), manner, milliseconds, source);
+            let options = ServeOptions {
+                watch: Some(watch),
+                manner,
+                milliseconds,
+            };
+            let ended = serve(rt, rt.alloc(), config, options, source);
             remove(rt, &socket, settings);
             ended
         }
@@ -110,9 +89,7 @@ fn serve_asked<
 }
 
 /// Serves the configuration of a path by its settings.
-fn serve_by<
-    R: Files + AllocGlobal + KeepsFiles + Threads + Wait + Clock + Net + RandomSource + Log + Sync,
->(
+fn serve_by<R: Files + AllocGlobal + KeepsFiles + Host>(
     rt: &R,
     path: &str,
     config: Config,
@@ -137,7 +114,12 @@ fn serve_by<
         keeper: rt.keeper(),
     };
     if settings.metrics.is_none() && settings.control.is_none() {
-        serve_watched(rt, config, None, manner, milliseconds, &mut source)
+        let options = ServeOptions {
+            watch: None,
+            manner,
+            milliseconds,
+        };
+        serve(rt, rt.alloc(), config, options, &mut source)
     } else {
         serve_asked(rt, config, manner, milliseconds, &mut source)
     }
@@ -160,9 +142,7 @@ fn to_serve<R: RandomSource>(
 }
 
 /// Serves the configuration of a path by its settings, with its own seed or with one that is drawn.
-fn serve_stated<
-    R: Files + AllocGlobal + KeepsFiles + Threads + Wait + Clock + Net + RandomSource + Log + Sync,
->(
+fn serve_stated<R: Files + AllocGlobal + KeepsFiles + Host>(
     rt: &R,
     path: &str,
     read: (Config, Settings),
@@ -185,10 +165,7 @@ fn serve_stated<
 ///
 /// `Refused`; `Memory`; `Clock`, `Seed`, `Bind`, `Control`, `Descriptors`, `Wait`, `Thread`, `Receive` and `Audit`, and
 /// the configuration is accepted then, and the endpoint one of its own.
-fn serve_text<
-    'a,
-    R: Files + AllocGlobal + KeepsFiles + Threads + Wait + Clock + Net + RandomSource + Log + Sync,
->(
+fn serve_text<'a, R: Files + AllocGlobal + KeepsFiles + Host>(
     rt: &R,
     configuration: &TextFile<'a>,
     has_seed_of_file: bool,
@@ -218,10 +195,7 @@ fn serve_text<
 }
 
 /// Serves the configuration of a path. `lines` are then what is said of one that is refused.
-pub fn serve_file<
-    'a,
-    R: Files + AllocGlobal + KeepsFiles + Threads + Wait + Clock + Net + RandomSource + Log + Sync,
->(
+pub fn serve_file<'a, R: Files + AllocGlobal + KeepsFiles + Host>(
     rt: &R,
     configuration: &'a str,
     has_seed_of_file: bool,

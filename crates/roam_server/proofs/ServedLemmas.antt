@@ -18,10 +18,11 @@ use Rattle.roam_shard.specs.declared.declined.Declined.TheVariants as declined
 use Rattle.roam_shard.specs.Follow.{AllFollow}
 use Rattle.roam_shard.specs.Pausing.{states_under}
 use Rattle.roam_shard.specs.declared.paused.Paused.{Paused}
-use Rattle.roam_epoch.specs.Closed.{EndsOf}
+use Rattle.roam_admin_thread.specs.declared.epoch_end.EpochEnd.{EpochEnd}
+use Rattle.roam_epoch.specs.Closed.{EndsOf, HasEnded}
 use Rattle.roam_server.specs.Begins.{HaveBegun, opening_with}
 use Rattle.std.specs.declared.alloc.Global.{Global}
-use Rattle.roam_server.specs.Ways.{IsWay, way_of}
+use Rattle.roam_server.specs.Ways.{HasBlanks, IsWay, way_of}
 use Rattle.roam_server.specs.Served.{GoOn, HasServed, HasServedAll, HaveServed, first_of}
 
 -- steps after steps
@@ -185,6 +186,21 @@ on-hub {A} config before after steps paused ends = λ o served k q is.
     (subst (λ (b : Beginning). IsHistory b (steps_of steps k)) at here)
     (ends.stand k q is ∙ ap (λ (b : Beginning). end_of b (steps_of steps k)) at)
 
+-- an epoch over them ended
+pub on-epoch : (config : ConfigView) (before : List (Paused Global)) (end : EpochEnd) (after : List (Paused Global))
+    → ArePaused config before → HasEnded (opening_over config before) before end after → GoOn config before config after
+on-epoch config before end after paused ended = elim ended [
+  | inl ends ↦ on-hub config before after ends.0 paused ends.1
+  | inr same ↦ subst (λ (xs : List (Paused Global)). GoOn config before config xs) (sym same.0) (λ o served. served)
+]
+
+pub paused-after : (config : ConfigView) (before : List (Paused Global)) (end : EpochEnd) (after : List (Paused Global))
+    → ArePaused config before → HasEnded (opening_over config before) before end after → ArePaused config after
+paused-after config before end after paused ended = elim ended [
+  | inl ends ↦ ends.1.paused
+  | inr same ↦ subst (λ (xs : List (Paused Global)). ArePaused config xs) (sym same.0) paused
+]
+
 -- and at the server's end
 pub all-served : {A : Type 0} (config now : ConfigView) (items : List SavedItem) (shards : List (Paused A))
     → HaveServed (opening_with config items) now shards → ArePaused now shards → now.shards ≡ config.shards →
@@ -203,12 +219,11 @@ pub way-declined : (is_agreed : Bool) (old new : ConfigView) (shards : List (Pau
 way-declined is_agreed old new shards declined.Memory is = tt
 way-declined is_agreed old new shards (declined.Losses losses) is = (is.disagreed, is.some)
 
+-- where it is declined there are no parts
+pub has-no-blanks : (shards : ℕ) (why : Declined Global) → HasBlanks shards (way_of why)
+has-no-blanks shards declined.Memory = tt
+has-no-blanks shards (declined.Losses losses) = tt
+
 -- nothing was done
 pub on-nothing : {A : Type 0} (config : ConfigView) (shards : List (Paused A)) → GoOn config shards config shards
 on-nothing config shards = λ o served. served
-
--- one after the other
-pub on-and-on : {A : Type 0} (first second third : ConfigView) (xs ys zs : List (Paused A)) → GoOn first xs second ys
-    → GoOn second ys third zs
-    → GoOn first xs third zs
-on-and-on first second third xs ys zs one two = λ o served. two o (one o served)

@@ -8,7 +8,8 @@ use Rattle.roam_shard.specs.declared.paused.Paused.{Paused}
 use Rattle.roam_shard.specs.History.{Beginning, end_of}
 use Rattle.roam_history.specs.HubOpening.{HubOpening, opening_at}
 use Rattle.roam_epoch.specs.Closed.{MayGoOn}
-use Rattle.roam_epoch.specs.declared.parts.Served.{Served}
+use Rattle.roam_admin_thread.specs.declared.epoch_end.EpochEnd.{EpochEnd}
+use Rattle.roam_epoch.specs.declared.carryover.Carryover.{Carryover}
 use Rattle.std.specs.declared.alloc.Global.{Global}
 use Rattle.roam_hub.specs.Changes.{AreSpans, Span}
 use Rattle.roam_hub.specs.Pausing.{ArePaused}
@@ -40,11 +41,12 @@ module _ {A : Type 0} where
   abbrev pub GoOn : ConfigView → List (Paused A) → ConfigView → List (Paused A) → Type 0
   GoOn old before new after = (o : HubOpening) → HaveServed o old before → HaveServed o new after
 
--- shards were served on under a configuration, and what follows may
-pub record IsServedOn (config : ConfigView) (shards : List (Paused Global)) (served : Served) : Type 0 where
-  pub paused : ArePaused config served.shards.items
-  pub goes_on : GoOn config shards config served.shards.items
-  pub may : MayGoOn config served.end
+-- shards were served on under a configuration: what is carried over, and how that epoch ended
+pub record IsServedOn (config : ConfigView) (shards : List (Paused Global)) (end : EpochEnd) (carry : Carryover) :
+    Type 0 where
+  pub paused : ArePaused config carry.shards.items
+  pub goes_on : GoOn config shards config carry.shards.items
+  pub may : MayGoOn config end
 
 -- what one shard did over all changes of the configuration
 pub record ServedSpans (begins : Beginning) : Type 0 where

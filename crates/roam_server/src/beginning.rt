@@ -77,18 +77,18 @@ fn empty_shards(alloc: Global, config: &Config) -> Result<Vec<Paused<Global>>, S
 }
 
 /// Puts the file of a path aside, and tells why nothing is read from it.
-fn leave<R: Log, S: Source>(parts: &mut ServerParts<'_, R, S>, path: &str, why: &str) {
-    let is_aside = parts.source.put_aside(path);
-    tell_unread(parts.rt, path, why, is_aside);
+fn leave<R: Log, S: Source>(server: &mut ServerParts<'_, R, S>, path: &str, why: &str) {
+    let is_aside = server.source.put_aside(path);
+    tell_unread(server.rt, path, why, is_aside);
 }
 
 /// Reads the octets that the file of a path holds, where there are any. Where they can't be read that is told, and
 /// the file is put aside.
-fn kept<R: Log, S: Source>(parts: &mut ServerParts<'_, R, S>, path: &str) -> Option<Vec<u8>> {
-    match parts.source.kept(path) {
+fn kept<R: Log, S: Source>(server: &mut ServerParts<'_, R, S>, path: &str) -> Option<Vec<u8>> {
+    match server.source.kept(path) {
         Ok(octets) => octets,
         Err(why) => {
-            leave(parts, path, why);
+            leave(server, path, why);
             None
         }
     }
@@ -97,22 +97,22 @@ fn kept<R: Log, S: Source>(parts: &mut ServerParts<'_, R, S>, path: &str) -> Opt
 /// Tells how many sessions of how many were taken up from the file of a path. Where some weren't, the file is kept as
 /// it is, under another name too.
 fn tell_taken<R: Log, S: Source>(
-    parts: &mut ServerParts<'_, R, S>,
+    server: &mut ServerParts<'_, R, S>,
     path: &str,
     taken: u64,
     sessions: u64,
 ) {
-    tell_taken_up(parts.rt, path, taken, sessions);
+    tell_taken_up(server.rt, path, taken, sessions);
     if taken < sessions {
-        let has_other_name = parts.source.keep_old(path);
-        tell_left_out(parts.rt, path, sessions - taken, has_other_name);
+        let has_other_name = server.source.keep_old(path);
+        tell_left_out(server.rt, path, sessions - taken, has_other_name);
     }
 }
 
 /// Begins the shards with what the file of a path holds, where that is session tables. Where it isn't, that is told,
 /// and the file is put aside.
 fn begin_from<R: Log, S: Source>(
-    parts: &mut ServerParts<'_, R, S>,
+    server: &mut ServerParts<'_, R, S>,
     config: &Config,
     path: &str,
     octets: &[u8],
@@ -121,23 +121,23 @@ fn begin_from<R: Log, S: Source>(
         × HaveBegun (shown config.now) items shards.items) }
     ensures err { IfErr result IsAfterBinding }
 {
-    match read(parts.alloc, octets) {
+    match read(server.alloc, octets) {
         Ok(items) => {
-            let (shards, taken) = first_shards(parts.alloc, config, items.as_slice())?;
-            tell_taken(parts, path, taken, count_sessions(items.as_slice()));
+            let (shards, taken) = first_shards(server.alloc, config, items.as_slice())?;
+            tell_taken(server, path, taken, count_sessions(items.as_slice()));
             Ok(shards)
         }
         Err(ReadError::Memory) => Err(ServeFault::Memory),
         Err(ReadError::Fault(fault)) => {
-            leave(parts, path, fault.text());
-            empty_shards(parts.alloc, config)
+            leave(server, path, fault.text());
+            empty_shards(server.alloc, config)
         }
     }
 }
 
 /// Begins the shards with what the file of a path has of their realms, where there is one.
 fn begin_with<R: Log, S: Source>(
-    parts: &mut ServerParts<'_, R, S>,
+    server: &mut ServerParts<'_, R, S>,
     config: &Config,
     path: &str,
 ) -> Result<Vec<Paused<Global>>, ServeFault>
@@ -145,16 +145,16 @@ fn begin_with<R: Log, S: Source>(
         × HaveBegun (shown config.now) items shards.items) }
     ensures err { IfErr result IsAfterBinding }
 {
-    match kept(parts, path) {
-        Some(octets) => begin_from(parts, config, path, octets.as_slice()),
-        None => empty_shards(parts.alloc, config),
+    match kept(server, path) {
+        Some(octets) => begin_from(server, config, path, octets.as_slice()),
+        None => empty_shards(server.alloc, config),
     }
 }
 
 /// Begins the shards of a server, by number: each realm is at its first start, and has the sessions that a file of
 /// session tables has of it, where there is one.
 fn beginning<R: Log, S: Source>(
-    parts: &mut ServerParts<'_, R, S>,
+    server: &mut ServerParts<'_, R, S>,
     configured: &Configured,
 ) -> Result<Vec<Paused<Global>>, ServeFault>
     ensures ok { IfOk result (λ shards. (items : List SavedItem)
@@ -163,21 +163,21 @@ fn beginning<R: Log, S: Source>(
 {
     let config = &configured.config;
     match &configured.manner.state {
-        Some(file) => begin_with(parts, config, file.path.as_str()),
-        None => empty_shards(parts.alloc, config),
+        Some(file) => begin_with(server, config, file.path.as_str()),
+        None => empty_shards(server.alloc, config),
     }
 }
 
 /// Has a server begin: returns its shards, by number, and has its time begin when it has them.
 pub fn begin<R: Clock + Log, S: Source>(
-    parts: &mut ServerParts<'_, R, S>,
+    server: &mut ServerParts<'_, R, S>,
     configured: &Configured,
 ) -> Result<Vec<Paused<Global>>, ServeFault>
     ensures ok { IfOk result (λ shards. (items : List SavedItem)
         × HaveBegun (shown configured.now.config) items shards.items) }
     ensures err { IfErr result IsAfterBinding }
 {
-    let shards = beginning(parts, configured)?;
-    begin_time(parts);
+    let shards = beginning(server, configured)?;
+    begin_time(server);
     Ok(shards)
 }

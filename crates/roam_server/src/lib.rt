@@ -4,7 +4,7 @@
 //! `roam_logger`), and what they do is counted and told. One configuration is served (`roam_epoch`) after the other,
 //! each over the shards of the one before it. There is one hub for each: it is closed and audited at that one's end,
 //! and the hub of the next one goes on with its shards. What can't be started is tried again, and who asks meanwhile
-//! is told so. Beside them are threads that outlast each configuration (`start_behind`): one frees stored steps, and
+//! is told so. Beside them are threads that outlast each configuration (`start_lasting`): one frees stored steps, and
 //! some answer over HTTP (`roam_admin`).
 //!
 //! What is decided here stands in small functions; the loops round them are the threads.
@@ -23,8 +23,8 @@
 
 mod again;
 mod beginning;
-mod behind;
 mod changing;
+mod lasting;
 mod server;
 mod serving;
 mod taken_up;
@@ -34,7 +34,7 @@ pub use server::{ServeOptions, serve};
 
 // What stands above takes these from here, and lists this crate alone of those that it goes over.
 pub use roam_admin::{Build, FileOrder};
-pub use roam_admin_thread::{Following, KeepEnd, Keeping, Manner, Source, StateFile, Watch};
+pub use roam_admin_thread::{Following, Host, KeepEnd, Keeping, Manner, Source, StateFile, Watch};
 pub use roam_log::{StationForm, StationKey};
 pub use roam_sockets::{
     ControlSocket, Reason, ServeFault, SocketPath, descriptors_wanted, reason_of, with_drawn_seed,

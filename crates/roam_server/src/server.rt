@@ -1,31 +1,28 @@
 //! The server, from its start to its end.
 
-ghost use Rattle.std.specs.Prelude.{IfErr, IfOk};
+ghost use Rattle.std.specs.Prelude.{◌≡◌, IfErr, IfOk};
 ghost use Rattle.roam_conf.specs.Shown.{shown};
+ghost use Rattle.roam_history.specs.Books.{count_of};
 ghost use Rattle.roam_server.specs.Served.{HasServedAll};
 ghost use Rattle.roam_sockets.specs.Faults.{IsAfterBinding, IsFaultOf};
 
-use crate::behind::{Behind, start_behind};
+use crate::lasting::{Lasting, start_lasting};
 use crate::serving::serve_all;
 use log::Log;
-use roam_admin::{Build, Office, Stopping};
+use roam_admin::{Admin, Build, Stopping};
 use roam_admin_thread::{
-    Configured, Handover, Manner, Source, Watch, make_kits, make_outboxes, widen_all,
+    Configured, EpochParts, Host, Manner, Source, Watch, fill_outboxes, widen_all,
 };
-use roam_conf::{Config, ExchangeLines};
-use roam_epoch::{Means, ServerParts};
+use roam_conf::Config;
+use roam_epoch::{Carryover, ServerParts};
 use roam_logger::{Notice, tell_or_drop};
-use roam_outgoing::{CAUSES, Counters, OldHistory, SharedLosses};
+use roam_outgoing::{CAUSES, Counters, Reclaimer, SharedLosses};
 use roam_port::socket_numbers;
-use roam_sockets::{BoundSocket, ServeFault, bind_all, descriptors_wanted, listen_at, reason_of};
-use roam_workers::Rests;
+use roam_sockets::{ServeFault, bind_all, descriptors_wanted, listen_at, reason_of};
 use std::alloc::Global;
 use std::net::{Net, TcpListener};
-use std::random::RandomSource;
-use std::sync::Wait;
 use std::thread;
-use std::thread::Threads;
-use std::time::{Clock, Instant};
+use std::time::Instant;
 
 /// The options of a server.
 #[derive(Drop)]
@@ -35,6 +32,15 @@ pub struct ServeOptions<'s> {
     pub manner: Manner,
     /// The milliseconds for which it serves, once it has sockets and session tables; none where that has no end.
     pub milliseconds: Option<u64>,
+}
+
+/// The configuration with which a server begins, and all that its first epoch needs.
+#[derive(Drop)]
+pub struct First {
+    pub configured: Configured,
+    pub carry: Carryover,
+    pub parts: EpochParts,
+    ghost one_for_each: { count_of parts.blanks ≡ configured.config.top.shards },
 }
 
 /// Returns the socket at which the counts are asked for, where there is one. Tells where it can't be had.
@@ -76,58 +82,60 @@ fn tell_losses<R: Log>(rt: &R, config: &Config, losses: &SharedLosses) {
 }
 
 /// Serves a configuration, and each one that follows, until the server ends, and tells what wasn't told.
-fn serve_to_end<R: Threads + Wait + Clock + Net + RandomSource + Log + Sync, S: Source>(
-    parts: &mut ServerParts<'_, R, S>,
-    mut configured: Configured,
-    means: Means,
+fn serve_to_end<R: Host, S: Source>(
+    server: &mut ServerParts<'_, R, S>,
+    first: First,
 ) -> Result<(), ServeFault>
-    ensures ok { IfOk result (λ u. HasServedAll (shown configured.config)) }
+    ensures ok { IfOk result (λ u. HasServedAll (shown first.configured.config)) }
     ensures err { IfErr result IsAfterBinding }
 {
-    let served = serve_all(parts, &mut configured, means);
-    tell_losses(parts.rt, &configured.config, parts.losses);
+    let First {
+        mut configured,
+        carry,
+        parts,
+    } = first;
+    let served = serve_all(server, &mut configured, carry, parts);
+    tell_losses(server.rt, &configured.config, server.losses);
     let steps = served?;
-    let ended = Notice::Ended(steps, parts.old_history.times());
-    tell_or_drop(parts.rt, &configured.config, ended);
+    let ended = Notice::Ended(steps, server.reclaimer.times());
+    tell_or_drop(server.rt, &configured.config, ended);
     Ok(())
 }
 
 /// Serves a configuration, and each one that follows, where the threads have started that outlast each configuration;
 /// errs with `Thread` where they haven't.
-fn serve_started<R: Threads + Wait + Clock + Net + RandomSource + Log + Sync, S: Source>(
+fn serve_started<R: Host, S: Source>(
     have_started: bool,
-    parts: &mut ServerParts<'_, R, S>,
-    configured: Configured,
-    means: Means,
+    server: &mut ServerParts<'_, R, S>,
+    first: First,
 ) -> Result<(), ServeFault>
-    ensures ok { IfOk result (λ u. HasServedAll (shown configured.config)) }
+    ensures ok { IfOk result (λ u. HasServedAll (shown first.configured.config)) }
     ensures err { IfErr result IsAfterBinding }
 {
     if !have_started {
         return Err(ServeFault::Thread);
     }
-    serve_to_end(parts, configured, means)
+    serve_to_end(server, first)
 }
 
 /// Serves a configuration, and each one that follows, with the threads that outlast them.
-fn serve_with<R: Threads + Wait + Clock + Net + RandomSource + Log + Sync, S: Source>(
-    parts: &mut ServerParts<'_, R, S>,
+fn serve_with<R: Host, S: Source>(
+    server: &mut ServerParts<'_, R, S>,
     listener: Option<&TcpListener>,
-    configured: Configured,
-    means: Means,
+    first: First,
 ) -> Result<(), ServeFault>
-    ensures ok { IfOk result (λ u. HasServedAll (shown configured.config)) }
+    ensures ok { IfOk result (λ u. HasServedAll (shown first.configured.config)) }
     ensures err { IfErr result IsAfterBinding }
 {
-    let rt = parts.rt;
-    let alloc = parts.alloc;
-    let office = parts.office;
-    let old_history = parts.old_history;
-    let behind = Behind {
-        office,
-        old_history,
+    let rt = server.rt;
+    let alloc = server.alloc;
+    let admin = server.admin;
+    let reclaimer = server.reclaimer;
+    let lasting = Lasting {
+        admin,
+        reclaimer,
         listener,
-        control: match parts.watch {
+        control: match server.watch {
             Some(watch) => watch.control,
             None => None,
         },
@@ -136,13 +144,13 @@ fn serve_with<R: Threads + Wait + Clock + Net + RandomSource + Log + Sync, S: So
         thread::scope_env(),
         rt,
         |scope| -> Result<(), ServeFault>
-            ensures ok { IfOk result (λ u. HasServedAll (shown configured.config)) }
+            ensures ok { IfOk result (λ u. HasServedAll (shown first.configured.config)) }
             ensures err { IfErr result IsAfterBinding }
         {
-            let have_started = start_behind(scope, rt, alloc, behind);
-            let served = serve_started(have_started, parts, configured, means);
-            office.close();
-            old_history.wake();
+            let have_started = start_lasting(scope, rt, alloc, lasting);
+            let served = serve_started(have_started, server, first);
+            admin.close();
+            reclaimer.wake();
             served
         },
     )
@@ -162,26 +170,26 @@ fn first_counters(
     }
 }
 
-/// Returns what the threads of the first configuration are made of.
-fn first_means<R: Net>(
-    rt: &R,
-    alloc: Global,
-    config: &Config,
-    sockets: &[BoundSocket],
-    told: ExchangeLines,
-) -> Result<Means, ServeFault>
+/// Makes what the first epoch needs: nothing is carried over to it but outboxes in which nothing waits.
+fn make_first<R: Net>(rt: &R, alloc: Global, configured: Configured) -> Result<First, ServeFault>
+    ensures configured { IfOk result (λ first. first.configured ≡ configured) }
     ensures err { IfErr result IsAfterBinding }
 {
+    let config = &configured.config;
     let wanted = descriptors_wanted(config, config);
-    Ok(Means {
-        kits: make_kits(rt, alloc, config, sockets, told, wanted)?,
-        outboxes: make_outboxes(alloc, config.top.shards, socket_numbers(config))?,
-        rests: Rests::new(alloc, config)?,
-        handover: Handover {
-            reply: None,
-            before: None,
-            is_awaited: false,
-        },
+    let mut outboxes = Vec::new(alloc);
+    fill_outboxes(
+        alloc,
+        config.top.shards,
+        socket_numbers(config),
+        &mut outboxes,
+    )?;
+    let parts = EpochParts::new(rt, alloc, &configured, wanted)?;
+    let carry = Carryover::first(alloc, outboxes);
+    Ok(First {
+        configured,
+        carry,
+        parts,
     })
 }
 
@@ -194,7 +202,7 @@ struct Serving<'s> {
 }
 
 /// Serves a configuration whose sockets are bound, and each one that follows.
-fn serve_bound<R: Threads + Wait + Clock + Net + RandomSource + Log + Sync, S: Source>(
+fn serve_bound<R: Host, S: Source>(
     rt: &R,
     alloc: Global,
     configured: Configured,
@@ -212,25 +220,24 @@ fn serve_bound<R: Threads + Wait + Clock + Net + RandomSource + Log + Sync, S: S
     let config = &configured.config;
     let listener = listener(rt, config, watch);
     let losses = SharedLosses::new();
-    let old_history = OldHistory::new(alloc, config.top.shards)?;
-    let office = Office::new(rt, alloc, start, config.top.shards, build_of(watch))?;
+    let reclaimer = Reclaimer::new(alloc, config.top.shards)?;
+    let admin = Admin::new(rt, alloc, start, config.top.shards, build_of(watch))?;
     let stopping = Stopping::new();
-    let told = configured.manner.told_exchanges;
-    let means = first_means(rt, alloc, config, configured.sockets.as_slice(), told)?;
-    let mut parts = ServerParts {
+    let first = make_first(rt, alloc, configured)?;
+    let mut server = ServerParts {
         rt,
         alloc,
         losses: &losses,
         watch,
-        old_history: &old_history,
-        office: &office,
+        reclaimer: &reclaimer,
+        admin: &admin,
         stopping: &stopping,
         start,
         milliseconds,
         end: None,
         source,
     };
-    serve_with(&mut parts, listener.as_ref(), configured, means)
+    serve_with(&mut server, listener.as_ref(), first)
 }
 
 /// Serves a configuration, and each one that follows by `source`. The log of `rt` isn't to wait for whoever reads it: a
@@ -240,7 +247,7 @@ fn serve_bound<R: Threads + Wait + Clock + Net + RandomSource + Log + Sync, S: S
 ///
 /// The first of `Clock`, `Bind`, `Descriptors`, `Memory`, `Wait`, `Thread`, `Receive` and `Audit` that comes up.
 /// `Bind` names an endpoint of the configuration. `Ok` comes of an audit alone.
-pub fn serve<R: Threads + Wait + Clock + Net + RandomSource + Log + Sync, S: Source>(
+pub fn serve<R: Host, S: Source>(
     rt: &R,
     alloc: Global,
     config: Config,

@@ -1,264 +1,166 @@
-//! One configuration after the other is served.
+//! One epoch after the other is served.
 
-ghost use Rattle.std.specs.Prelude.{◌≡◌, IfOk, IfErr};
-ghost use Rattle.roam_conf.specs.Config.{ConfigView};
+ghost use Rattle.std.specs.Prelude.{◌≡◌, IfErr, IfOk, IfSome};
 ghost use Rattle.roam_conf.specs.Shown.{shown};
 ghost use Rattle.roam_history.specs.Books.{count_of};
-ghost use Rattle.roam_hub.specs.Pausing.{ArePaused};
 ghost use Rattle.roam_epoch.specs.Closed.{MayGoOn};
-ghost use Rattle.roam_server.specs.Served.{HasServedAll, IsServedOn};
+ghost use Rattle.roam_hub.specs.Pausing.{ArePaused};
+ghost use Rattle.roam_reload.specs.Reload.{MayFollow};
+ghost use Rattle.roam_server.specs.Served.{GoOn, HasServedAll, IsServedOn};
 ghost use Rattle.roam_sockets.specs.Faults.{IsAfterBinding};
 
-use crate::again::{is_time_over, take_again, told_or};
+use crate::again::{is_time_over, take_again, try_again};
 use crate::beginning::begin;
-use crate::changing::{Changed, Ready, Way, change};
-use crate::unserved::is_stopped;
-use log::Log;
-use roam_admin_thread::{Configured, FreshMeans, Handover, HubEnd, Source};
-use roam_epoch::{Means, Served, ServerParts, Unserved, serve_over};
-use roam_hub::Blanks;
-use roam_logger::{Notice, tell_or_drop};
-use roam_port::Outbox;
-use roam_shard::Paused;
+use crate::changing::{Way, change};
+use roam_admin_thread::{Configured, EpochEnd, EpochParts, Host, Next, Source};
+use roam_epoch::{Carryover, ServerParts, serve_epoch};
 use roam_sockets::ServeFault;
-use roam_workers::Rests;
-use std::alloc::Global;
 use std::marker::Brand;
-use std::net::Net;
-use std::random::RandomSource;
-use std::sync::Wait;
-use std::thread;
-use std::thread::Threads;
-use std::time::{Clock, Duration};
 
-/// The time, in milliseconds, before the threads and sockets are started again that couldn't be.
-const BEFORE_NEXT_TRY: u64 = 100;
-
-/// Makes the result that nothing was served, for this fault: what serves is to be started again.
-fn not_started(
-    fault: ServeFault,
-    shards: Vec<Paused<Global>>,
-    outboxes: Vec<Outbox<Global>>,
-    rests: Option<Rests>,
-    handover: Handover,
-) -> Served
-    requires { IsAfterBinding fault }
-    ensures { (config : ConfigView) → ArePaused config shards.items
-        → IsServedOn config shards.items result }
-{
-    Served {
-        end: HubEnd::Failed(fault, handover),
-        outboxes,
-        rests,
-        shards,
-        steps: 0,
-    }
-}
-
-/// Serves a configuration once, over shards that stand under it.
-fn serve_once<R: Threads + Wait + Clock + Net + RandomSource + Log + Sync, S: Source>(
-    parts: &mut ServerParts<'_, R, S>,
+/// Serves one epoch, over shards that stand under its configuration.
+fn serve_once<R: Host, S: Source>(
+    server: &mut ServerParts<'_, R, S>,
     configured: &Configured,
-    shards: Vec<Paused<Global>>,
-    blanks: Blanks<Global>,
-    means: Means,
-) -> Result<Served, ServeFault>
-    requires paused { ArePaused (shown configured.now.config) shards.items }
-    requires blanks { count_of blanks ≡ configured.now.config.top.shards }
-    ensures ok { IfOk result (IsServedOn (shown configured.now.config) shards.items) }
+    carry: Carryover,
+    parts: EpochParts,
+) -> Result<(EpochEnd, Carryover), ServeFault>
+    requires paused { ArePaused (shown configured.now.config) carry.shards.items }
+    requires blanks { count_of parts.blanks ≡ configured.now.config.top.shards }
+    ensures ok { IfOk result (λ served.
+        IsServedOn (shown configured.now.config) carry.shards.items served.0 served.1) }
     ensures err { IfErr result IsAfterBinding }
 {
-    match serve_over::<Brand, R, S>(parts, configured, shards, blanks, means) {
+    match serve_epoch::<Brand, R, S>(server, configured, carry, parts) {
         Ok(served) => Ok(served),
-        Err(Unserved::Fault(fault)) => Err(fault),
-        Err(Unserved::Closed(shards, means)) => {
-            let (_kits, outboxes, rests, handover) = means.into_parts();
-            let fault = ServeFault::Memory;
-            Ok(not_started(fault, shards, outboxes, Some(rests), handover))
-        }
+        Err(fault) => Err(fault),
     }
 }
 
-/// Serves a configuration once more, where what serves couldn't be started before.
-fn serve_again<R: Threads + Wait + Clock + Net + RandomSource + Log + Sync, S: Source>(
-    parts: &mut ServerParts<'_, R, S>,
+/// Serves one epoch with these parts; or none, for the fault for which there are none.
+fn serve_ready<R: Host, S: Source>(
+    server: &mut ServerParts<'_, R, S>,
     configured: &Configured,
-    shards: Vec<Paused<Global>>,
-    mut outboxes: Vec<Outbox<Global>>,
-    told: Option<Rests>,
-    handover: Handover,
-) -> Result<Served, ServeFault>
-    requires { ArePaused (shown configured.now.config) shards.items }
-    ensures ok { IfOk result (IsServedOn (shown configured.now.config) shards.items) }
+    carry: Carryover,
+    ready: Result<EpochParts, ServeFault>,
+) -> Result<(EpochEnd, Carryover), ServeFault>
+    requires paused { ArePaused (shown configured.now.config) carry.shards.items }
+    requires blanks { IfOk ready (λ parts. count_of parts.blanks ≡ configured.now.config.top.shards) }
+    requires fault { IfErr ready IsAfterBinding }
+    ensures ok { IfOk result (λ served.
+        IsServedOn (shown configured.now.config) carry.shards.items served.0 served.1) }
     ensures err { IfErr result IsAfterBinding }
 {
-    match take_again(parts, configured, &mut outboxes) {
-        Ok(
-            FreshMeans {
-                kits,
-                rests,
-                blanks,
-            },
-        ) => {
-            let means = Means {
-                kits,
-                outboxes,
-                rests: told_or(told, rests),
-                handover,
-            };
-            serve_once(parts, configured, shards, blanks, means)
-        }
-        Err(fault) => Ok(not_started(fault, shards, outboxes, told, handover)),
+    match ready {
+        Ok(parts) => serve_once(server, configured, carry, parts),
+        Err(fault) => Ok((EpochEnd::Failed(fault), carry)),
     }
 }
 
-/// Serves a configuration until what serves could be started: nothing of what stands is lost where it can't be at once.
-fn serve_until_started<R: Threads + Wait + Clock + Net + RandomSource + Log + Sync, S: Source>(
-    parts: &mut ServerParts<'_, R, S>,
-    configured: &Configured,
-    first: Served,
-) -> Result<Served, ServeFault>
-    requires paused { ArePaused (shown configured.now.config) first.shards.items }
-    requires may { MayGoOn (shown configured.now.config) first.end }
-    ensures ok { IfOk result (IsServedOn (shown configured.now.config) first.shards.items) }
+/// Has the next epoch be that of the configuration that is to follow, or of the one of before where the other is
+/// declined: its parts, or why there are none.
+fn follow_next<R: Host, S: Source>(
+    server: &mut ServerParts<'_, R, S>,
+    configured: &mut Configured,
+    carry: &mut Carryover,
+    next: Next,
+) -> Result<EpochParts, ServeFault>
+    requires paused { ArePaused (shown configured.old.config) carry.old.shards.items }
+    requires may { MayFollow (shown configured.old.config) (shown next.configured.config) }
+    ensures blanks { IfOk result (λ parts. count_of parts.blanks ≡ configured.new.config.top.shards) }
+    ensures paused { ArePaused (shown configured.new.config) carry.new.shards.items }
+    ensures goes_on { GoOn (shown configured.old.config) carry.old.shards.items
+        (shown configured.new.config) carry.new.shards.items }
+    ensures count { configured.new.config.top.shards ≡ configured.old.config.top.shards }
     ensures err { IfErr result IsAfterBinding }
 {
-    let rt = parts.rt;
-    let mut served = first;
-    let mut is_told = false;
-    for _ in rt.forever() {
-        if !served.end.has_failed() || is_time_over(parts) {
-            return Ok(served);
-        }
-        if !is_told {
-            is_told = tell_or_drop(rt, &configured.config, Notice::TriesAgain);
-        }
-        thread::sleep(rt, Duration::from_millis(BEFORE_NEXT_TRY));
-        served = serve_on(parts, configured, served)?;
+    match change(server, configured, carry, next) {
+        Way::Follows(parts) => Ok(parts),
+        Way::Declined => take_again(server, configured, &mut carry.outboxes),
+        Way::NoMemory => Err(ServeFault::Memory),
     }
-    unreachable!()
 }
 
-/// Serves on where what serves couldn't be started before. Who asks is answered first, and it is over where the server
-/// is asked to stop.
-fn serve_on<R: Threads + Wait + Clock + Net + RandomSource + Log + Sync, S: Source>(
-    parts: &mut ServerParts<'_, R, S>,
-    configured: &Configured,
-    served: Served,
-) -> Result<Served, ServeFault>
-    requires paused { ArePaused (shown configured.now.config) served.shards.items }
-    requires may { MayGoOn (shown configured.now.config) served.end }
-    ensures ok { IfOk result (IsServedOn (shown configured.now.config) served.shards.items) }
+/// The tries to start what serves.
+#[derive(Clone, Copy)]
+struct Tries {
+    /// True while the first configuration is served: where its threads can't be started, the server ends.
+    is_first: bool,
+    /// True where it was told that the start is tried again.
+    is_told: bool,
+}
+
+/// Has the next epoch follow one that ended so: its parts, or why there are none yet. None where the server ends.
+///
+/// # Errors
+///
+/// The fault for which what serves couldn't be started, where that isn't tried again.
+fn after_epoch<R: Host, S: Source>(
+    server: &mut ServerParts<'_, R, S>,
+    configured: &mut Configured,
+    carry: &mut Carryover,
+    end: EpochEnd,
+    tries: &mut Tries,
+) -> Result<Option<Result<EpochParts, ServeFault>>, ServeFault>
+    requires paused { ArePaused (shown configured.old.config) carry.old.shards.items }
+    requires may { MayGoOn (shown configured.old.config) end }
+    ensures paused { ArePaused (shown configured.new.config) carry.new.shards.items }
+    ensures goes_on { GoOn (shown configured.old.config) carry.old.shards.items
+        (shown configured.new.config) carry.new.shards.items }
+    ensures count { configured.new.config.top.shards ≡ configured.old.config.top.shards }
+    ensures blanks { IfOk result (λ some. IfSome some (λ ready.
+        IfOk ready (λ parts. count_of parts.blanks ≡ configured.new.config.top.shards))) }
+    ensures fault { IfOk result (λ some. IfSome some (λ ready. IfErr ready IsAfterBinding)) }
     ensures err { IfErr result IsAfterBinding }
 {
-    let Served {
-        end,
-        outboxes,
-        rests,
-        shards,
-        steps,
-    } = served;
     match end {
-        HubEnd::Failed(fault, mut handover) => {
-            if is_stopped(parts, fault) {
-                return Ok(Served {
-                    end: HubEnd::Over,
-                    outboxes,
-                    rests,
-                    shards,
-                    steps,
-                });
+        EpochEnd::Over => Ok(None),
+        EpochEnd::Follows(next) => {
+            tries.is_first = false;
+            tries.is_told = false;
+            Ok(Some(follow_next(server, configured, carry, next)))
+        }
+        EpochEnd::Failed(fault) => {
+            if tries.is_first || is_time_over(server) {
+                return Err(fault);
             }
-            handover.is_awaited = false;
-            let again = serve_again(parts, configured, shards, outboxes, rests, handover)?;
-            Ok(again.with_more(steps))
-        }
-        end => Ok(Served {
-            end,
-            outboxes,
-            rests,
-            shards,
-            steps,
-        }),
-    }
-}
-
-/// Serves for the first time after a change: the configuration that follows; that of before, where the other was
-/// declined; where memory is wanting nothing yet.
-fn serve_changed<R: Threads + Wait + Clock + Net + RandomSource + Log + Sync, S: Source>(
-    parts: &mut ServerParts<'_, R, S>,
-    configured: &Configured,
-    shards: Vec<Paused<Global>>,
-    changed: Changed,
-    outboxes: Vec<Outbox<Global>>,
-) -> Result<Served, ServeFault>
-    requires paused { ArePaused (shown configured.now.config) shards.items }
-    requires blanks { count_of changed.blanks ≡ configured.now.config.top.shards }
-    ensures ok { IfOk result (IsServedOn (shown configured.now.config) shards.items) }
-    ensures err { IfErr result IsAfterBinding }
-{
-    let Changed {
-        way,
-        blanks,
-        told,
-        handover,
-    } = changed;
-    match way {
-        Way::Follows(Ready { kits, rests }) => {
-            let means = Means {
-                kits,
-                outboxes,
-                rests,
-                handover,
-            };
-            serve_once(parts, configured, shards, blanks, means)
-        }
-        Way::Declined => serve_again(parts, configured, shards, outboxes, told, handover),
-        Way::NoMemory => {
-            let fault = ServeFault::Memory;
-            Ok(not_started(fault, shards, outboxes, told, handover))
+            let is_told = &mut tries.is_told;
+            Ok(try_again(server, configured, carry, fault, is_told))
         }
     }
 }
 
 /// Serves a configuration, and each one that follows, until the server ends: how many steps were recorded. Each realm
-/// begins with the sessions that a file of ledgers has of it.
+/// begins with the sessions that a file of ledgers has of it. What is carried over to the first epoch has no shards
+/// yet.
 ///
 /// # Errors
 ///
 /// The first configuration's threads that can't be started end it; those of another one are tried again.
-pub(crate) fn serve_all<R: Threads + Wait + Clock + Net + RandomSource + Log + Sync, S: Source>(
-    parts: &mut ServerParts<'_, R, S>,
+pub(crate) fn serve_all<R: Host, S: Source>(
+    server: &mut ServerParts<'_, R, S>,
     configured: &mut Configured,
-    means: Means,
+    first: Carryover,
+    parts: EpochParts,
 ) -> Result<u64, ServeFault>
+    requires blanks { count_of parts.blanks ≡ configured.old.config.top.shards }
     ensures ok { IfOk result (λ steps. HasServedAll (shown configured.old.config)) }
     ensures err { IfErr result IsAfterBinding }
 {
-    let begun = begin(parts, configured)?;
-    let Ok(blanks) = Blanks::new(parts.alloc, configured.config.top.shards) else {
-        return Err(ServeFault::Memory);
+    let mut carry = first;
+    carry.shards = begin(server, configured)?;
+    let mut ready = Ok(parts);
+    let mut tries = Tries {
+        is_first: true,
+        is_told: false,
     };
-    let mut served = serve_once(parts, configured, begun, blanks, means)?;
-    let mut steps = 0u64;
-    let rt = parts.rt;
+    let rt = server.rt;
     for _ in rt.forever() {
-        let Served {
-            end,
-            outboxes,
-            rests,
-            mut shards,
-            steps: more,
-        } = served;
-        steps = steps.saturating_add(more);
-        let next = match end {
-            HubEnd::Over => return Ok(steps),
-            HubEnd::Failed(fault, _) => return Err(fault),
-            HubEnd::Follows(next) => next,
-        };
-        let changed = change(parts, configured, &mut shards, next, rests);
-        let first = serve_changed(parts, configured, shards, changed, outboxes)?;
-        served = serve_until_started(parts, configured, first)?;
+        let (end, left) = serve_ready(server, configured, carry, ready)?;
+        carry = left;
+        match after_epoch(server, configured, &mut carry, end, &mut tries)? {
+            Some(next) => ready = next,
+            None => return Ok(carry.steps),
+        }
     }
     unreachable!()
 }

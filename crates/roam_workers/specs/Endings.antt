@@ -1,20 +1,13 @@
 -- The things that the workers of a server give back at its end. Ours.
 use Rattle.std.specs.Prelude.{List, map}
-use Rattle.std.specs.declared.vec.Vec.{Vec}
-use Rattle.std.specs.declared.alloc.Global.{Global}
 use Rattle.roam_counters.specs.declared.datagrams.DatagramCounts.{DatagramCounts}
-use Rattle.roam_workers.specs.declared.job_counts.JobCounts.{JobCounts}
-use Rattle.roam_workers.specs.declared.ending.Ending.{Ending}
-use Rattle.roam_workers.specs.declared.ending.WorkerEnd.{WorkerEnd}
+use Rattle.roam_workers.specs.declared.worker_result.ExitReason.{ExitReason}
+use Rattle.roam_workers.specs.declared.worker_result.WorkerResult.{WorkerResult}
 
 -- why they ended
-abbrev pub endings_of : {N : Type 0} → List (WorkerEnd N) → List Ending
+abbrev pub endings_of : {N : Type 0} → List (WorkerResult N) → List ExitReason
 endings_of ends = map (λ e. e.ending) ends
 
 -- what became of the datagrams that each received
-abbrev pub datagrams_of : {N : Type 0} → List (WorkerEnd N) → List DatagramCounts
+abbrev pub datagrams_of : {N : Type 0} → List (WorkerResult N) → List DatagramCounts
 datagrams_of ends = map (λ e. e.datagrams.counts) ends
-
--- how many jobs each handed on to each queue, and took over from there
-abbrev pub job_counts_of : {N : Type 0} → List (WorkerEnd N) → List (Vec JobCounts Global)
-job_counts_of ends = map (λ e. e.jobs) ends

@@ -13,11 +13,10 @@ ghost use Rattle.roam_workers.specs.Requests as requests;
 
 use crate::codes::may_lose_session;
 use crate::context::WorkerContext;
-use crate::hub_calls::HubCalls;
 use roam_admission::Job;
 use roam_conf::ExchangeLines;
 use roam_counters::CountedTurn;
-use roam_history::{Answered, HubFault, Opened, Refused};
+use roam_history::{Answered, Call, HubCalls, HubFault, Opened, Refused};
 use roam_wire::Refusal;
 use std::alloc::Global;
 use std::sync::Wait;
@@ -36,7 +35,7 @@ pub(crate) fn given_as(turn: CountedTurn, is_lost: bool) -> CountedTurn
     }
 }
 
-impl<H: HubCalls<N>, N: Opened> WorkerContext<'_, '_, H, N> {
+impl<H: HubCalls<Global, N>, N: Opened> WorkerContext<'_, '_, H, N> {
     /// Gives a job to the hub. Where memory is still wanting once the history was freed, an Accounting-Response is
     /// handed in once more without its session, and answers whether its session is lost.
     pub(crate) fn answer_or_lose<R: Wait>(
@@ -45,7 +44,7 @@ impl<H: HubCalls<N>, N: Opened> WorkerContext<'_, '_, H, N> {
         job: Job<Global>,
     ) -> Result<(Answered<Global>, bool), Refusal>
         requires { IsEvent N.opening.config (shown_job job) }
-        ensures answered { IfOk result (λ given. IsAnswered N.opening self.old.shared.now.told_exchanges self.old.now
+        ensures answered { IfOk result (λ given. IsAnswered N.opening self.old.epoch.now.told_exchanges self.old.now
             (handlings.given_as (shown_job job) given.1) self.old.seat self.new.seat given.0) }
         ensures may_lose { IfOk result (λ given. given.1 ≡ true → requests.may_lose_session (shown_job job) ≡ true) }
         ensures failed { OnErr result (self.new.seat.tallies ≡ self.old.seat.tallies) }
@@ -54,7 +53,7 @@ impl<H: HubCalls<N>, N: Opened> WorkerContext<'_, '_, H, N> {
             × (self.new.outgoing ≡ self.old.outgoing) }
     {
         let may_lose = may_lose_session(&job);
-        let lines = self.shared.told_exchanges;
+        let lines = self.epoch.told_exchanges;
         match self.answer(rt, lines, job) {
             Ok(answered) => Ok((answered, false)),
             Err(Refused { fault, job }) => {
@@ -108,12 +107,16 @@ impl<H: HubCalls<N>, N: Opened> WorkerContext<'_, '_, H, N> {
             × (counts_in self.new.counting ≡ counts_in self.old.counting)
             × (self.new.outgoing ≡ self.old.outgoing) }
     {
-        let shared = self.shared;
-        let shard = shared.config.shard_of(job.realm);
+        let epoch = self.epoch;
+        let shard = epoch.config.shard_of(job.realm);
         let mut job = job;
         let mut is_second = false;
         for _ in rt.forever() {
-            match shared.hub.answer(rt, self.now, lines, &mut self.seat, job) {
+            let call = Call {
+                moment: self.now,
+                lines,
+            };
+            match epoch.hub.answer(rt, call, &mut self.seat, job) {
                 Ok(answered) => return Ok(answered),
                 Err(Refused { fault, job: same }) => {
                     if !self.remedy(rt, shard, fault, is_second) {

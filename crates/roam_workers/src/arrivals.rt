@@ -14,12 +14,11 @@ ghost use Rattle.roam_workers.specs.Requests.{is_request};
 use crate::answering::given_as;
 use crate::codes::is_request;
 use crate::context::WorkerContext;
-use crate::hub_calls::HubCalls;
 use crate::worker_jobs::WorkerJobs;
 use roam_admission::{Datagram, Job, Prepared, prepare};
 use roam_conf::{Config, Endpoint, Place};
 use roam_counters::Handling;
-use roam_history::Opened;
+use roam_history::{HubCalls, Opened};
 use roam_log::Origin;
 use roam_logger::origin_of;
 use roam_outgoing::turn_of;
@@ -59,7 +58,7 @@ fn origin_in(
     }
 }
 
-impl<H: HubCalls<N>, N: Opened> WorkerContext<'_, '_, H, N> {
+impl<H: HubCalls<Global, N>, N: Opened> WorkerContext<'_, '_, H, N> {
     /// Takes a datagram: hands its packets to the sockets, or tells why it is refused; and counts what became of it. Or
     /// it hands its job on to the worker of the job's shard, which counts what becomes of it.
     pub fn arrive<R: Wait>(
@@ -69,7 +68,7 @@ impl<H: HubCalls<N>, N: Opened> WorkerContext<'_, '_, H, N> {
         jobs: &mut WorkerJobs<N>,
         datagram: &Datagram<Global>,
     )
-        ensures { ArrivesHere N.opening self.old.shared.now.told_exchanges self.old.now (shown_arrival datagram.now)
+        ensures { ArrivesHere N.opening self.old.epoch.now.told_exchanges self.old.now (shown_arrival datagram.now)
             (receiving self.old.seat self.old.counting self.old.outgoing self.old.datagrams jobs.old.for_others.items)
             (receiving self.new.seat self.new.counting self.new.outgoing self.new.datagrams jobs.new.for_others.items)
             (λ q. jobs_of q.items (λ j. j.job)) }
@@ -88,7 +87,7 @@ impl<H: HubCalls<N>, N: Opened> WorkerContext<'_, '_, H, N> {
     {
         let received = self.datagrams.counts.received;
         is_request(datagram.octets.as_slice())
-            && (self.shared.stopping.is_asked()
+            && (self.epoch.stopping.is_asked()
                 || self.junk.passes_over(datagram.from.ip, self.now, received))
     }
 
@@ -99,7 +98,7 @@ impl<H: HubCalls<N>, N: Opened> WorkerContext<'_, '_, H, N> {
             × (counts_in self.new.counting ≡ counts_in self.old.counting)
             × (self.new.outgoing ≡ self.old.outgoing) }
     {
-        if let Some(endpoint) = shared_endpoint(self.shared.config, datagram.at) {
+        if let Some(endpoint) = shared_endpoint(self.epoch.config, datagram.at) {
             self.junk.pass_over(endpoint, datagram.from, self.now);
         }
     }
@@ -113,7 +112,7 @@ impl<H: HubCalls<N>, N: Opened> WorkerContext<'_, '_, H, N> {
         jobs: &mut WorkerJobs<N>,
         datagram: &Datagram<Global>,
     ) -> Option<Handling>
-        ensures handled { IfSome result (λ handling. IsHandled N.opening self.old.shared.now.told_exchanges self.old.now
+        ensures handled { IfSome result (λ handling. IsHandled N.opening self.old.epoch.now.told_exchanges self.old.now
             (shown_arrival datagram.now) (at_work self.old.seat self.old.counting self.old.outgoing)
             (at_work self.new.seat self.new.counting self.new.outgoing)
             handling × (jobs.new.for_others.items ≡ jobs.old.for_others.items)) }
@@ -127,10 +126,10 @@ impl<H: HubCalls<N>, N: Opened> WorkerContext<'_, '_, H, N> {
             self.pass_over(datagram);
             return Some(Handling::Dropped);
         }
-        match prepare(alloc, self.shared.config, datagram) {
+        match prepare(alloc, self.epoch.config, datagram) {
             Ok(Prepared::Job(job)) => self.take_or_hand(rt, jobs, job, datagram),
             Ok(Prepared::Answered(what, out)) => {
-                let config = self.shared.config;
+                let config = self.epoch.config;
                 self.counting
                     .answered(config, out.from, out.to, what.code());
                 self.tell_local(datagram, what);
@@ -138,7 +137,7 @@ impl<H: HubCalls<N>, N: Opened> WorkerContext<'_, '_, H, N> {
                 Some(Handling::Answered)
             }
             Err(refusal) => {
-                let config = self.shared.config;
+                let config = self.epoch.config;
                 self.counting
                     .refused(config, refusal, datagram.at, datagram.from);
                 self.junk.note(datagram.from.ip, refusal, self.now);
@@ -160,7 +159,7 @@ impl<H: HubCalls<N>, N: Opened> WorkerContext<'_, '_, H, N> {
         requires event { IsEvent N.opening.config (shown_job job) }
         requires admission { admission N.opening.config (shown_arrival datagram.now)
             ≡ admitted (shown_job job) }
-        ensures handled { IfSome result (λ handling. IsHandled N.opening self.old.shared.now.told_exchanges self.old.now
+        ensures handled { IfSome result (λ handling. IsHandled N.opening self.old.epoch.now.told_exchanges self.old.now
             (shown_arrival datagram.now) (at_work self.old.seat self.old.counting self.old.outgoing)
             (at_work self.new.seat self.new.counting self.new.outgoing)
             handling × (jobs.new.for_others.items ≡ jobs.old.for_others.items)) }
@@ -170,10 +169,10 @@ impl<H: HubCalls<N>, N: Opened> WorkerContext<'_, '_, H, N> {
             ≡ at_work self.old.seat self.old.counting self.old.outgoing)) }
         ensures kept { self.new.datagrams ≡ self.old.datagrams }
     {
-        if !self.shared.is_anothers(jobs.number, &job) {
+        if !self.epoch.is_anothers(jobs.number, &job) {
             return Some(self.take(rt, job, Some(datagram)));
         }
-        let worker = usize::from(self.shared.config.shard_of(job.realm));
+        let worker = usize::from(self.epoch.config.shard_of(job.realm));
         match jobs.set_aside(worker, job) {
             None => None,
             Some(job) => Some(self.take(rt, job, Some(datagram))),
@@ -190,18 +189,18 @@ impl<H: HubCalls<N>, N: Opened> WorkerContext<'_, '_, H, N> {
         datagram: Option<&Datagram<Global>>,
     ) -> Handling
         requires event { IsEvent N.opening.config (shown_job job) }
-        ensures handled { IsJobHandled N.opening self.old.shared.now.told_exchanges self.old.now (shown_job job)
+        ensures handled { IsJobHandled N.opening self.old.epoch.now.told_exchanges self.old.now (shown_job job)
             (at_work self.old.seat self.old.counting self.old.outgoing)
             (at_work self.new.seat self.new.counting self.new.outgoing) result }
         ensures kept { self.new.datagrams ≡ self.old.datagrams }
     {
-        let config = self.shared.config;
+        let config = self.epoch.config;
         let turn = turn_of(&job);
         let arrived = Origin::Datagram(job.place, job.from);
         self.counting.came(turn);
         match self.answer_or_lose(rt, job) {
             Ok((answered, is_lost)) => {
-                self.shared.rest.wake();
+                self.epoch.wake_timer();
                 let given = given_as(turn, is_lost);
                 self.counting
                     .gave(config, given, &answered.happening, self.now);

@@ -10,12 +10,11 @@ ghost use Rattle.roam_outgoing.specs.Sending.{PutsEach, outbox_in};
 ghost use Rattle.roam_workers.specs.Handlings.{at_work};
 ghost use Rattle.roam_workers.specs.Ticks.{HasNotTicked, Ticks};
 
-use crate::ending::{Ending, WorkerEnd};
-use crate::hub_calls::HubCalls;
+use crate::epoch::Epoch;
 use crate::junk::Junk;
-use crate::shared::Shared;
+use crate::worker_result::{ExitReason, WorkerResult};
 use roam_counters::Datagrams;
-use roam_history::{Answered, HubFault, Opened, Seat, Ticked};
+use roam_history::{Answered, Call, HubCalls, HubFault, Opened, Seat, Ticked};
 use roam_log::Origin;
 use roam_logger::{Exchanges, Notices};
 use roam_outgoing::{Counting, Outgoing};
@@ -27,7 +26,7 @@ use std::time::Clock;
 
 /// The parts of a worker or the timer: its seat at the hub, its packets on their way out, and its notices.
 pub struct WorkerContext<'s, 'c, H, N: Opened> {
-    pub shared: &'s Shared<'s, 'c, H, N>,
+    pub epoch: &'s Epoch<'s, 'c, H, N>,
     pub seat: Seat<Global, N>,
     pub outgoing: Outgoing<'s>,
     pub notices: Notices,
@@ -49,7 +48,7 @@ pub struct WorkerContext<'s, 'c, H, N: Opened> {
 impl<'s, 'c, H, N: Opened> Drop for WorkerContext<'s, 'c, H, N> {
     fn drop(self) {
         let Self {
-            shared: _,
+            epoch: _,
             seat,
             outgoing,
             notices,
@@ -93,14 +92,14 @@ pub fn remedy_for(fault: HubFault, is_second: bool) -> Remedy
     }
 }
 
-impl<H: HubCalls<N>, N: Opened> WorkerContext<'_, '_, H, N> {
+impl<H: HubCalls<Global, N>, N: Opened> WorkerContext<'_, '_, H, N> {
     /// Looks at the clock, and at the wall clock where Event-Timestamps are looked at.
     pub fn look_at_clock<R: Clock>(&mut self, rt: &R)
         ensures kept { (self.new.seat ≡ self.old.seat) × (counts_in self.new.counting ≡ counts_in self.old.counting)
             × (self.new.outgoing ≡ self.old.outgoing) }
     {
-        self.now = now(rt, self.shared.start, self.now);
-        self.seconds = match self.shared.config.top.fresh {
+        self.now = now(rt, self.epoch.start, self.now);
+        self.seconds = match self.epoch.config.top.fresh {
             Some(_) => wall_seconds(rt),
             None => None,
         };
@@ -131,18 +130,18 @@ impl<H: HubCalls<N>, N: Opened> WorkerContext<'_, '_, H, N> {
     /// Ticks a shard where something is due there, and hands its packets to the sockets. Answers whether more is due:
     /// the tick had a part of it.
     pub fn tick<R: Wait>(&mut self, rt: &R, shard: u16) -> bool
-        ensures ticks { Ticks N.opening self.old.shared.now.told_exchanges shard self.old.now
+        ensures ticks { Ticks N.opening self.old.epoch.now.told_exchanges shard self.old.now
             (at_work self.old.seat self.old.counting self.old.outgoing)
             (at_work self.new.seat self.new.counting self.new.outgoing) }
     {
-        let shared = self.shared;
+        let epoch = self.epoch;
         let mut is_second = false;
         for _ in rt.forever() {
-            let (now, lines) = (self.now, shared.told_exchanges);
-            match shared
-                .hub
-                .tick_if_due(rt, now, lines, &mut self.seat, shard)
-            {
+            let call = Call {
+                moment: self.now,
+                lines: epoch.told_exchanges,
+            };
+            match epoch.hub.tick_if_due(rt, call, &mut self.seat, shard) {
                 Ok(Some(ticked)) => return self.ticked(rt, shard, ticked),
                 Ok(None) => return false,
                 Err(fault) => {
@@ -164,10 +163,10 @@ impl<H: HubCalls<N>, N: Opened> WorkerContext<'_, '_, H, N> {
         ensures looks { HasNotTicked (at_work self.old.seat self.old.counting self.old.outgoing)
             (at_work self.new.seat self.new.counting self.new.outgoing) }
     {
-        let shared = self.shared;
+        let epoch = self.epoch;
         let until = self.now.saturating_add(milliseconds);
-        for shard in 0..shared.config.top.shards {
-            match shared.hub.is_due(rt, &mut self.seat, until, shard) {
+        for shard in 0..epoch.config.top.shards {
+            match epoch.hub.is_due(rt, &mut self.seat, until, shard) {
                 Ok(false) => {}
                 _ => return false,
             }
@@ -189,8 +188,8 @@ impl<H: HubCalls<N>, N: Opened> WorkerContext<'_, '_, H, N> {
             self.refuse(refusal, origin);
         }
         self.outgoing.put_all(answered.answer.outs);
-        self.shared.old_history.free_beside(answered.number);
-        if answered.octets > u64::from(self.shared.config.top.trace_octets) {
+        self.epoch.reclaimer.free_beside(answered.number);
+        if answered.octets > u64::from(self.epoch.config.top.trace_octets) {
             self.let_go(rt, answered.shard);
         }
     }
@@ -224,12 +223,12 @@ impl<H: HubCalls<N>, N: Opened> WorkerContext<'_, '_, H, N> {
         }
         let have_lines = self.exchanges.take_due(self.now, within);
         if self.notices.take_waiting() || have_lines {
-            self.shared.logger.unpark();
+            self.epoch.logger.unpark();
         }
     }
 
     /// Sends what can be sent, gives back the seat and the packets that wait on, and has all workers end.
-    pub fn leave(mut self, ending: Ending) -> WorkerEnd<N>
+    pub fn leave(mut self, ending: ExitReason) -> WorkerResult<N>
         ensures ending { result.ending ≡ ending }
         ensures datagrams { result.datagrams ≡ self.entry.datagrams }
         ensures seat { result.seat ≡ self.entry.seat }
@@ -241,7 +240,7 @@ impl<H: HubCalls<N>, N: Opened> WorkerContext<'_, '_, H, N> {
         let dropped = self.exchanges.dropped();
         self.notices.end(dropped);
         let Self {
-            shared,
+            epoch,
             seat,
             outgoing,
             notices,
@@ -253,15 +252,15 @@ impl<H: HubCalls<N>, N: Opened> WorkerContext<'_, '_, H, N> {
             free_again_at: _,
             junk,
         } = self;
-        let end = WorkerEnd {
+        let end = WorkerResult {
             ending,
             datagrams,
-            jobs: Vec::new(shared.alloc),
+            jobs: Vec::new(epoch.alloc),
             seat,
             outbox: outgoing.into_outbox(),
             rests: None,
         };
-        shared.end_all();
+        epoch.end_all();
         drop(notices);
         drop(exchanges);
         drop(counting);

@@ -4,11 +4,10 @@ ghost use Rattle.std.specs.Prelude.{◌≡◌};
 ghost use Rattle.roam_outgoing.specs.Counting.{counts_in};
 
 use crate::context::WorkerContext;
-use crate::hub_calls::HubCalls;
 use crate::silence::silence_of;
 use roam_admission::{Datagram, LocalAnswer, RejectCause};
 use roam_counters::Process;
-use roam_history::{Answered, Became, Happening, LeftConversation, Opened, Waited};
+use roam_history::{Answered, Became, Happening, HubCalls, LeftConversation, Opened, Waited};
 use roam_log::{EndedWith, Exchange, ExchangeEnd};
 use roam_logger::{local_reject_of, local_response_of, nak_of};
 use std::alloc::Global;
@@ -22,7 +21,7 @@ fn sent_by(answered: &Answered<Global>) -> &[u8] {
     }
 }
 
-impl<H: HubCalls<N>, N: Opened> WorkerContext<'_, '_, H, N> {
+impl<H: HubCalls<Global, N>, N: Opened> WorkerContext<'_, '_, H, N> {
     /// Has an exchange be told of which lines tell, and counts it where it can't be.
     fn tell(&mut self, exchange: Option<Exchange>)
         ensures kept { (self.new.seat ≡ self.old.seat) × (self.new.datagrams ≡ self.old.datagrams)
@@ -47,7 +46,7 @@ impl<H: HubCalls<N>, N: Opened> WorkerContext<'_, '_, H, N> {
             × (self.new.outgoing ≡ self.old.outgoing) }
     {
         if self.exchanges.are_told(ExchangeEnd::Response) {
-            let exchange = local_response_of(self.shared.config, datagram);
+            let exchange = local_response_of(self.epoch.config, datagram);
             self.tell(Some(exchange));
         }
     }
@@ -60,7 +59,7 @@ impl<H: HubCalls<N>, N: Opened> WorkerContext<'_, '_, H, N> {
             × (self.new.outgoing ≡ self.old.outgoing) }
     {
         if self.exchanges.are_told(ExchangeEnd::LocalReject) {
-            let exchange = local_reject_of(self.shared.config, datagram, why);
+            let exchange = local_reject_of(self.epoch.config, datagram, why);
             self.exchanges.reject(&exchange, self.now);
         }
     }
@@ -136,7 +135,7 @@ impl<H: HubCalls<N>, N: Opened> WorkerContext<'_, '_, H, N> {
         };
         if self
             .exchanges
-            .replace_of(self.shared.config, realm, waited, ended)
+            .replace_of(self.epoch.config, realm, waited, ended)
         {
             self.counting.process(Process::LineDropped);
         }
@@ -154,7 +153,7 @@ impl<H: HubCalls<N>, N: Opened> WorkerContext<'_, '_, H, N> {
         }
         if self
             .exchanges
-            .tell_of(self.shared.config, realm, waited, ended)
+            .tell_of(self.epoch.config, realm, waited, ended)
         {
             self.counting.process(Process::LineDropped);
         }
@@ -170,7 +169,7 @@ impl<H: HubCalls<N>, N: Opened> WorkerContext<'_, '_, H, N> {
         if !self.exchanges.are_told(ExchangeEnd::GivenUp) {
             return;
         }
-        let silence = silence_of(rt, self.shared, &self.seat, realm, waited.link);
+        let silence = silence_of(rt, self.epoch, &self.seat, realm, waited.link);
         let ended = EndedWith {
             outcome: ExchangeEnd::GivenUp,
             reply: &[],

@@ -8,15 +8,14 @@ ghost use Rattle.roam_workers.specs.HandedJobs.{HandsOrTakes, TakesAll, TakesJob
 ghost use Rattle.roam_workers.specs.Work.{HasWorked};
 
 use crate::context::WorkerContext;
-use crate::hub_calls::HubCalls;
+use crate::epoch::Epoch;
 use crate::job_counts::{JobCounts, count_jobs};
 use crate::locked_queue::LockedQueue;
 use crate::queued_job::{Jobs, QueuedJob};
-use crate::shared::Shared;
 use crate::worker_jobs::WorkerJobs;
 use roam_admission::Job;
 use roam_conf::Place;
-use roam_history::Opened;
+use roam_history::{HubCalls, Opened};
 use std::alloc::Global;
 use std::collections::VecDeque;
 use std::mem;
@@ -30,7 +29,7 @@ fn is_shared(place: Place) -> bool {
     }
 }
 
-impl<H, N: Opened> Shared<'_, '_, H, N> {
+impl<H, N: Opened> Epoch<'_, '_, H, N> {
     /// Returns whether a job is another worker's to give to the hub than the one of this number.
     pub(crate) fn is_anothers(&self, number: usize, job: &Job<Global>) -> bool {
         is_shared(job.place) && usize::from(self.config.shard_of(job.realm)) != number
@@ -38,7 +37,7 @@ impl<H, N: Opened> Shared<'_, '_, H, N> {
 
     /// Returns whether a job waits for any worker that others received for its shard.
     pub(crate) fn do_jobs_wait<R: Wait>(&self, rt: &R) -> bool {
-        for queue in self.queues {
+        for queue in &self.queues {
             if queue.holds_any(rt) {
                 return true;
             }
@@ -69,7 +68,7 @@ impl<H, N: Opened> Shared<'_, '_, H, N> {
     }
 }
 
-impl<H: HubCalls<N>, N: Opened> WorkerContext<'_, '_, H, N> {
+impl<H: HubCalls<Global, N>, N: Opened> WorkerContext<'_, '_, H, N> {
     /// Gives a job to the hub that a worker received: hands its packets to the sockets, or tells why it is refused; and
     /// counts what became of its datagram.
     fn take_job<R: Wait>(&mut self, rt: &R, queued: QueuedJob<N>)
@@ -104,7 +103,7 @@ impl<H: HubCalls<N>, N: Opened> WorkerContext<'_, '_, H, N> {
             self.old.datagrams.counts self.new.datagrams.counts }
         ensures none_left { jobs.new.items ≡ [] }
     {
-        let handed_on = self.shared.hand_on(rt, jobs, worker);
+        let handed_on = self.epoch.hand_on(rt, jobs, worker);
         self.take_jobs(rt, jobs);
         handed_on
     }
@@ -153,10 +152,10 @@ impl<H: HubCalls<N>, N: Opened> WorkerContext<'_, '_, H, N> {
             (at_work self.new.seat self.new.counting self.new.outgoing) }
         ensures for_others { jobs.new.for_others ≡ jobs.old.for_others }
     {
-        let Some(queue) = self.shared.queues.get(jobs.number) else {
+        let Some(queue) = self.epoch.queues.get(jobs.number) else {
             return;
         };
-        let mut room = mem::replace(&mut jobs.room, VecDeque::new(self.shared.alloc));
+        let mut room = mem::replace(&mut jobs.room, VecDeque::new(self.epoch.alloc));
         let taken_over = self.take_from(rt, queue, &mut room, goes_on);
         jobs.room = room;
         let more = JobCounts {

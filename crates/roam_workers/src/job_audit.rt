@@ -6,6 +6,7 @@ ghost use Rattle.roam_workers.specs.JobCounts.{AreAllTaken, of_threads};
 
 use crate::job_counts::JobCounts;
 use crate::locked_queue::LockedQueue;
+use crate::worker_result::WorkerResult;
 use roam_history::Opened;
 
 /// Returns what one thread counted of a queue.
@@ -19,12 +20,12 @@ fn counts_at(counts: &[JobCounts], queue: usize) -> JobCounts
 }
 
 /// Returns what all threads counted of a queue.
-fn of_all(threads: &[Vec<JobCounts>], queue: usize) -> JobCounts
-    ensures { result ≡ of_threads (λ v. v.items) queue threads.now }
+fn of_all<N: Opened>(ends: &[WorkerResult<N>], queue: usize) -> JobCounts
+    ensures { result ≡ of_threads (λ e. e.jobs.items) queue ends.now }
 {
     let mut sum = JobCounts::none();
-    for counts in threads {
-        sum = sum.and(counts_at(counts.as_slice(), queue));
+    for end in ends {
+        sum = sum.and(counts_at(end.jobs.as_slice(), queue));
     }
     sum
 }
@@ -39,14 +40,14 @@ fn is_taken<N: Opened>(queue: LockedQueue<N>, counted: JobCounts) -> bool
     }
 }
 
-/// Audits the queues of all workers by what their threads counted, once these have ended: returns whether all jobs that
-/// were handed on were taken over, and none twice.
-pub fn audit_jobs<N: Opened>(queues: Vec<LockedQueue<N>>, threads: &[Vec<JobCounts>]) -> bool
-    ensures { IsTrue result → AreAllTaken (λ v. v.items) (length queues.items) threads.now }
+/// Audits the queues of all workers by what their threads counted, which have ended: returns whether all jobs that were
+/// handed on were taken over, and none twice.
+pub fn audit_jobs<N: Opened>(queues: Vec<LockedQueue<N>>, ends: &[WorkerResult<N>]) -> bool
+    ensures { IsTrue result → AreAllTaken (λ e. e.jobs.items) (length queues.items) ends.now }
 {
     let mut queues = queues;
     while let Some(queue) = queues.pop() {
-        if !is_taken(queue, of_all(threads, queues.len())) {
+        if !is_taken(queue, of_all(ends, queues.len())) {
             drop(queues);
             return false;
         }

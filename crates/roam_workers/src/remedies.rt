@@ -4,15 +4,15 @@ ghost use Rattle.std.specs.Prelude.{◌≡◌};
 ghost use Rattle.roam_outgoing.specs.Counting.{counts_in};
 
 use crate::context::{Remedy, WorkerContext, remedy_for};
-use crate::hub_calls::HubCalls;
-use roam_history::{HubFault, Opened};
+use roam_history::{HubCalls, HubFault, Opened};
+use std::alloc::Global;
 use std::sync::Wait;
 
 /// The time within which a thread frees stored steps once where memory is wanting, in milliseconds: what was freed a
 /// moment ago can't help a second time.
 const FREE_AGAIN: u64 = 1000;
 
-impl<H: HubCalls<N>, N: Opened> WorkerContext<'_, '_, H, N> {
+impl<H: HubCalls<Global, N>, N: Opened> WorkerContext<'_, '_, H, N> {
     /// Does what helps against a fault of a call. Answers whether it can be made again.
     pub fn remedy<R: Wait>(&mut self, rt: &R, shard: u16, fault: HubFault, is_second: bool) -> bool
         ensures kept { (self.new.seat.tallies ≡ self.old.seat.tallies)
@@ -34,11 +34,11 @@ impl<H: HubCalls<N>, N: Opened> WorkerContext<'_, '_, H, N> {
             × (counts_in self.new.counting ≡ counts_in self.old.counting)
             × (self.new.outgoing ≡ self.old.outgoing) }
     {
-        let shared = self.shared;
-        match shared.hub.let_go(rt, &mut self.seat, shard) {
+        let epoch = self.epoch;
+        match epoch.hub.let_go(rt, &mut self.seat, shard) {
             Ok(steps) => {
                 self.counting.let_go(shard, steps.len());
-                shared.old_history.hand_over(rt, steps);
+                epoch.reclaimer.hand_over(rt, steps);
                 true
             }
             Err(_) => false,
@@ -56,13 +56,13 @@ impl<H: HubCalls<N>, N: Opened> WorkerContext<'_, '_, H, N> {
         if self.now < self.free_again_at {
             return false;
         }
-        match self.shared.hub.let_go(rt, &mut self.seat, shard) {
+        match self.epoch.hub.let_go(rt, &mut self.seat, shard) {
             Ok(steps) => {
                 self.free_again_at = self.now.saturating_add(FREE_AGAIN);
                 self.counting.let_go(shard, steps.len());
-                self.shared.old_history.count();
+                self.epoch.reclaimer.count();
                 drop(steps);
-                self.shared.old_history.free_all(rt);
+                self.epoch.reclaimer.free_all(rt);
                 true
             }
             Err(_) => false,

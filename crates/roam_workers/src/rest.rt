@@ -5,19 +5,17 @@ use crate::timer::REST;
 use mio::Waker;
 use std::sync::atomic::{AtomicBool, Ordering};
 
-/// The rest of the timer, and what wakes it.
+/// The rest of the timer.
 #[derive(Drop)]
-pub struct TimerRest<'s> {
+pub struct TimerRest {
     is_resting: AtomicBool,
-    waker: Option<&'s Waker>,
 }
 
-impl<'s> TimerRest<'s> {
-    /// Makes a timer that doesn't rest, and is woken through this.
-    pub fn new(waker: Option<&'s Waker>) -> TimerRest<'s> {
+impl TimerRest {
+    /// Makes a timer that doesn't rest.
+    pub fn new() -> TimerRest {
         TimerRest {
             is_resting: AtomicBool::new(false),
-            waker,
         }
     }
 
@@ -31,14 +29,14 @@ impl<'s> TimerRest<'s> {
         self.is_resting.store(false, Ordering::SeqCst);
     }
 
-    /// Wakes the timer where it rests: the first who asks does.
-    pub fn wake(&self) {
+    /// Wakes the timer through this where it rests: the first who asks does.
+    pub fn wake(&self, waker: Option<&Waker>) {
         if !self.is_resting.load(Ordering::SeqCst)
             || !self.is_resting.swap(false, Ordering::SeqCst)
         {
             return;
         }
-        if let Some(waker) = self.waker {
+        if let Some(waker) = waker {
             let _is_woken = waker.wake().is_ok();
         }
     }

@@ -4,11 +4,10 @@ ghost use Rattle.std.specs.Prelude.{◌≡◌};
 ghost use Rattle.roam_outgoing.specs.Counting.{counts_in};
 
 use crate::context::WorkerContext;
-use crate::hub_calls::HubCalls;
+use crate::epoch::Epoch;
 use crate::rests::Rests;
-use crate::shared::Shared;
 use roam_conf::{Link, Realm};
-use roam_history::{Opened, SERVER_LINKS, Seat};
+use roam_history::{HubCalls, Opened, SERVER_LINKS, Seat};
 use roam_log::Silence;
 use roam_logger::Answering;
 use std::alloc::Global;
@@ -41,16 +40,16 @@ fn place_of(servers: usize, link: Link) -> Option<usize> {
 }
 
 /// Returns how the home server of a realm's link is silent, where it is.
-pub(crate) fn silence_of<R: Wait, H: HubCalls<N>, N: Opened>(
+pub(crate) fn silence_of<R: Wait, H: HubCalls<Global, N>, N: Opened>(
     rt: &R,
-    shared: &Shared<'_, '_, H, N>,
+    epoch: &Epoch<'_, '_, H, N>,
     seat: &Seat<Global, N>,
     realm: u16,
     link: Link,
 ) -> Option<Silence> {
-    let servers = shared.config.realms.get(usize::from(realm))?.servers.len();
+    let servers = epoch.config.realms.get(usize::from(realm))?.servers.len();
     let place = place_of(servers, link)?;
-    let gauges = shared.hub.look(rt, seat, realm)?;
+    let gauges = epoch.hub.look(rt, seat, realm)?;
     let rest = gauges.rests.get(place)?;
     match (rest.signs, rest.until) {
         (0, _) => Some(Silence::Never),
@@ -69,7 +68,7 @@ fn answering_by(is_silent: bool, signs: u64) -> Answering {
 }
 
 /// Tells which home servers of a realm keep silent now, or answer again, where one rests that keeps silent.
-fn tell_realm<R: Wait, H: HubCalls<N>, N: Opened>(
+fn tell_realm<R: Wait, H: HubCalls<Global, N>, N: Opened>(
     rt: &R,
     context: &mut WorkerContext<'_, '_, H, N>,
     rests: &mut Rests,
@@ -83,7 +82,7 @@ fn tell_realm<R: Wait, H: HubCalls<N>, N: Opened>(
     if realm.rest == 0 || realm.gone {
         return;
     }
-    let Some(gauges) = context.shared.hub.look(rt, &context.seat, number) else {
+    let Some(gauges) = context.epoch.hub.look(rt, &context.seat, number) else {
         return;
     };
     let Some(silent) = rests.silent.get_mut(usize::from(number)) else {
@@ -103,7 +102,7 @@ fn tell_realm<R: Wait, H: HubCalls<N>, N: Opened>(
 }
 
 /// Tells once a second which home servers keep silent, or answer again.
-pub fn tell_rests<R: Wait, H: HubCalls<N>, N: Opened>(
+pub fn tell_rests<R: Wait, H: HubCalls<Global, N>, N: Opened>(
     rt: &R,
     context: &mut WorkerContext<'_, '_, H, N>,
     rests: &mut Rests,
@@ -117,20 +116,20 @@ pub fn tell_rests<R: Wait, H: HubCalls<N>, N: Opened>(
         return;
     }
     rests.next = now.saturating_add(BETWEEN_LOOKS);
-    let config = context.shared.config;
+    let config = context.epoch.config;
     for (number, realm) in config.realms.iter().enumerate() {
         tell_realm(rt, context, rests, number as u16, realm);
     }
 }
 
 /// Returns whether a request waits in any realm, no earlier than the seat has seen it.
-pub fn does_any_wait<R: Wait, H: HubCalls<N>, N: Opened>(
+pub fn does_any_wait<R: Wait, H: HubCalls<Global, N>, N: Opened>(
     rt: &R,
-    shared: &Shared<'_, '_, H, N>,
+    epoch: &Epoch<'_, '_, H, N>,
     seat: &Seat<Global, N>,
 ) -> bool {
-    for number in 0..shared.config.realms.len() {
-        match shared.hub.look(rt, seat, number as u16) {
+    for number in 0..epoch.config.realms.len() {
+        match epoch.hub.look(rt, seat, number as u16) {
             Some(gauges) if gauges.in_use == 0 => {}
             _ => return true,
         }

@@ -4,8 +4,8 @@ ghost use Rattle.roam_workers.specs.Handlings.{at_work};
 ghost use Rattle.roam_workers.specs.Work.{HasWorked};
 
 use crate::context::WorkerContext;
-use crate::hub_calls::HubCalls;
-use roam_history::{LATE, Opened};
+use roam_history::{HubCalls, LATE, Opened};
+use std::alloc::Global;
 use std::sync::Wait;
 
 /// From one round of ticks to the next, in milliseconds.
@@ -15,7 +15,7 @@ pub const TICK: u64 = 10;
 /// comes back to it before, and for one that rests the timer ticks it.
 pub const LEFT_TO_WORKER: u64 = 2 * TICK;
 
-impl<H: HubCalls<N>, N: Opened> WorkerContext<'_, '_, H, N> {
+impl<H: HubCalls<Global, N>, N: Opened> WorkerContext<'_, '_, H, N> {
     /// Ticks a shard once, and sends what that gives. Answers whether it is to be ticked again.
     fn tick_once<R: Wait>(&mut self, rt: &R, shard: u16) -> bool
         ensures { HasWorked N.opening (at_work self.old.seat self.old.counting self.old.outgoing)
@@ -23,7 +23,7 @@ impl<H: HubCalls<N>, N: Opened> WorkerContext<'_, '_, H, N> {
     {
         let is_more = self.tick(rt, shard);
         self.outgoing.send();
-        is_more && !self.shared.is_over()
+        is_more && !self.epoch.is_over()
     }
 
     /// Ticks a shard until no more is due in it, and sends after each tick: between two others have its lock. Each has
@@ -41,7 +41,7 @@ impl<H: HubCalls<N>, N: Opened> WorkerContext<'_, '_, H, N> {
 
     /// Returns whether the worker of a shard ticks it.
     fn is_left_to_worker(&self, shard: u16) -> bool {
-        match self.shared.queues.get(usize::from(shard)) {
+        match self.epoch.queues.get(usize::from(shard)) {
             Some(queue) => queue.is_ticked(self.now, LEFT_TO_WORKER),
             None => false,
         }
@@ -60,7 +60,7 @@ impl<H: HubCalls<N>, N: Opened> WorkerContext<'_, '_, H, N> {
     /// Returns whether the worker of this shard is to tick it, since it didn't so for a while. It counts as ticked
     /// then.
     fn is_own_due(&self, shard: u16) -> bool {
-        match self.shared.queues.get(usize::from(shard)) {
+        match self.epoch.queues.get(usize::from(shard)) {
             Some(queue) if !queue.is_ticked(self.now, TICK) => {
                 queue.note_tick(self.now);
                 true

@@ -7,15 +7,14 @@ ghost use Rattle.roam_workers.specs.Handlings.{at_work};
 ghost use Rattle.roam_workers.specs.Work.{HasWorked, HasWorkedTo};
 
 use crate::context::WorkerContext;
-use crate::ending::{Ending, WorkerEnd};
-use crate::hub_calls::HubCalls;
 use crate::rest::wait_for;
 use crate::rests::Rests;
 use crate::silence::{does_any_wait, tell_rests};
 use crate::ticking::TICK;
 use crate::told_losses::tell_losses;
+use crate::worker_result::{ExitReason, WorkerResult};
 use mio::{Events, Poll};
-use roam_history::Opened;
+use roam_history::{HubCalls, Opened};
 use std::alloc::Global;
 use std::sync::Wait;
 use std::thread;
@@ -75,8 +74,8 @@ fn is_time_over(now: u64, end: Option<u64>) -> bool
 
 /// Returns when the server's time is over, as far as that is known.
 fn end_of<H, N: Opened>(timer: &Timer<'_, '_, H, N>) -> Option<u64> {
-    let shared = timer.context.shared;
-    shared.stopping.or_earlier(shared.end)
+    let epoch = timer.context.epoch;
+    epoch.stopping.or_earlier(epoch.end)
 }
 
 /// Tells once that the server is asked to stop.
@@ -85,20 +84,23 @@ fn tell_stop<H, N: Opened>(timer: &mut Timer<'_, '_, H, N>)
         × (counts_in timer.new.context.counting ≡ counts_in timer.old.context.counting)
         × (timer.new.context.outgoing ≡ timer.old.context.outgoing) }
 {
-    if !timer.is_stop_told && timer.context.shared.stopping.is_asked() {
+    if !timer.is_stop_told && timer.context.epoch.stopping.is_asked() {
         timer.is_stop_told = timer.context.notices.stopping();
     }
 }
 
 /// Returns whether all is done where the server is asked to stop: no request waits, nor did so a while ago.
-fn has_done_all<R: Wait, H: HubCalls<N>, N: Opened>(rt: &R, timer: &mut Timer<'_, '_, H, N>) -> bool
+fn has_done_all<R: Wait, H: HubCalls<Global, N>, N: Opened>(
+    rt: &R,
+    timer: &mut Timer<'_, '_, H, N>,
+) -> bool
     ensures kept { (timer.new.context.seat ≡ timer.old.context.seat)
         × (counts_in timer.new.context.counting ≡ counts_in timer.old.context.counting)
         × (timer.new.context.outgoing ≡ timer.old.context.outgoing) }
 {
-    if !timer.context.shared.stopping.is_asked()
-        || timer.context.shared.do_jobs_wait(rt)
-        || does_any_wait(rt, timer.context.shared, &timer.context.seat)
+    if !timer.context.epoch.stopping.is_asked()
+        || timer.context.epoch.do_jobs_wait(rt)
+        || does_any_wait(rt, timer.context.epoch, &timer.context.seat)
     {
         timer.quiet_since = None;
         return false;
@@ -110,12 +112,12 @@ fn has_done_all<R: Wait, H: HubCalls<N>, N: Opened>(rt: &R, timer: &mut Timer<'_
 }
 
 /// Ticks all shards but those that their workers tick, until all are to end.
-fn tick_all<R: Wait, H: HubCalls<N>, N: Opened>(rt: &R, timer: &mut Timer<'_, '_, H, N>)
+fn tick_all<R: Wait, H: HubCalls<Global, N>, N: Opened>(rt: &R, timer: &mut Timer<'_, '_, H, N>)
     ensures { HasWorked N.opening (at_work timer.old.context.seat timer.old.context.counting timer.old.context.outgoing)
         (at_work timer.new.context.seat timer.new.context.counting timer.new.context.outgoing) }
 {
-    for shard in 0..timer.context.shared.config.top.shards {
-        if timer.context.shared.is_over() {
+    for shard in 0..timer.context.epoch.config.top.shards {
+        if timer.context.epoch.is_over() {
             return;
         }
         timer.context.tick_unless_left(rt, shard);
@@ -123,7 +125,7 @@ fn tick_all<R: Wait, H: HubCalls<N>, N: Opened>(rt: &R, timer: &mut Timer<'_, '_
 }
 
 /// Tells what is to be told of losses and of home servers.
-fn tell_all<R: Wait, H: HubCalls<N>, N: Opened>(rt: &R, timer: &mut Timer<'_, '_, H, N>)
+fn tell_all<R: Wait, H: HubCalls<Global, N>, N: Opened>(rt: &R, timer: &mut Timer<'_, '_, H, N>)
     ensures kept { (timer.new.context.seat ≡ timer.old.context.seat)
         × (counts_in timer.new.context.counting ≡ counts_in timer.old.context.counting)
         × (timer.new.context.outgoing ≡ timer.old.context.outgoing) }
@@ -134,29 +136,29 @@ fn tell_all<R: Wait, H: HubCalls<N>, N: Opened>(rt: &R, timer: &mut Timer<'_, '_
 }
 
 /// Does one round of ticks. Returns why the timer ends with it, if it does.
-fn round<R: Wait + Clock, H: HubCalls<N>, N: Opened>(
+fn round<R: Wait + Clock, H: HubCalls<Global, N>, N: Opened>(
     rt: &R,
     timer: &mut Timer<'_, '_, H, N>,
-) -> Option<Ending>
+) -> Option<ExitReason>
     ensures { HasWorked N.opening (at_work timer.old.context.seat timer.old.context.counting timer.old.context.outgoing)
         (at_work timer.new.context.seat timer.new.context.counting timer.new.context.outgoing) }
 {
-    if timer.context.shared.is_over() {
-        return Some(Ending::Stopped);
+    if timer.context.epoch.is_over() {
+        return Some(ExitReason::Stopped);
     }
     timer.context.look_at_clock(rt);
     tell_stop(timer);
     if is_time_over(timer.context.now, end_of(timer)) {
-        return Some(Ending::TimeOver);
+        return Some(ExitReason::TimeOver);
     }
     timer.context.outgoing.send_again();
     tick_all(rt, timer);
-    if timer.context.shared.is_over() {
-        return Some(Ending::Stopped);
+    if timer.context.epoch.is_over() {
+        return Some(ExitReason::Stopped);
     }
     tell_all(rt, timer);
     if has_done_all(rt, timer) {
-        return Some(Ending::TimeOver);
+        return Some(ExitReason::TimeOver);
     }
     None
 }
@@ -186,26 +188,26 @@ fn wait<R: Clock, H, N: Opened>(rt: &R, timer: &mut Timer<'_, '_, H, N>, millise
 
 /// Waits until the next round. Before it rests it says so, and looks at the shards once more: a job that one was
 /// given before that look is seen there, and who gives one a job after it wakes the timer.
-fn rest<R: Wait + Clock, H: HubCalls<N>, N: Opened>(rt: &R, timer: &mut Timer<'_, '_, H, N>)
+fn rest<R: Wait + Clock, H: HubCalls<Global, N>, N: Opened>(rt: &R, timer: &mut Timer<'_, '_, H, N>)
     ensures { HasWorked N.opening (at_work timer.old.context.seat timer.old.context.counting timer.old.context.outgoing)
         (at_work timer.new.context.seat timer.new.context.counting timer.new.context.outgoing) }
 {
-    if timer.context.shared.stopping.is_asked() {
+    if timer.context.epoch.stopping.is_asked() {
         return wait(rt, timer, TICK);
     }
     if !timer.context.can_rest(rt, REST) {
         return wait(rt, timer, TICK);
     }
-    let shared = timer.context.shared;
-    shared.rest.begin();
+    let epoch = timer.context.epoch;
+    epoch.rest.begin();
     let milliseconds = wait_for(timer.context.can_rest(rt, REST));
     wait(rt, timer, milliseconds);
-    shared.rest.end();
+    epoch.rest.end();
 }
 
-impl<H: HubCalls<N>, N: Opened> Timer<'_, '_, H, N> {
+impl<H: HubCalls<Global, N>, N: Opened> Timer<'_, '_, H, N> {
     /// Gives back what its context does, and which home servers keep silent, as it was told.
-    fn leave(self, ending: Ending) -> WorkerEnd<N>
+    fn leave(self, ending: ExitReason) -> WorkerResult<N>
         ensures seat { result.seat ≡ self.entry.context.seat }
         ensures sends { PutsEach [] (outbox_in self.entry.context.outgoing) result.outbox }
     {
@@ -227,10 +229,10 @@ impl<H: HubCalls<N>, N: Opened> Timer<'_, '_, H, N> {
 }
 
 /// Ticks the shards about every `TICK` milliseconds where something may be due, until the server ends.
-pub fn tick_on<R: Wait + Clock, H: HubCalls<N>, N: Opened>(
+pub fn tick_on<R: Wait + Clock, H: HubCalls<Global, N>, N: Opened>(
     rt: &R,
     mut timer: Timer<'_, '_, H, N>,
-) -> WorkerEnd<N>
+) -> WorkerResult<N>
     ensures { HasWorkedTo N.opening
         (at_work timer.entry.context.seat timer.entry.context.counting timer.entry.context.outgoing)
         result.seat result.outbox }

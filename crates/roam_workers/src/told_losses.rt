@@ -3,10 +3,10 @@
 ghost use Rattle.std.specs.Prelude.{◌≡◌, ◌↔◌, ◌≤◌, ◌+◌, IsTrue, MatchOption};
 ghost use Rattle.roam_outgoing.specs.Counting.{counts_in};
 
-use crate::hub_calls::HubCalls;
 use crate::timer::Timer;
-use roam_history::Opened;
+use roam_history::{HubCalls, Opened};
 use roam_outgoing::CAUSES;
+use std::alloc::Global;
 
 /// Lost packets of one cause are told once in so many milliseconds.
 const BETWEEN_LOSSES: u64 = 60_000;
@@ -22,7 +22,7 @@ fn may_tell(now: u64, last: Option<u64>) -> bool
 }
 
 /// Tells what was lost by the cause at a place, where it can be told again.
-fn tell_cause<H: HubCalls<N>, N: Opened>(timer: &mut Timer<'_, '_, H, N>, at: usize)
+fn tell_cause<H: HubCalls<Global, N>, N: Opened>(timer: &mut Timer<'_, '_, H, N>, at: usize)
     ensures kept { (timer.new.context.seat ≡ timer.old.context.seat)
         × (counts_in timer.new.context.counting ≡ counts_in timer.old.context.counting)
         × (timer.new.context.outgoing ≡ timer.old.context.outgoing) }
@@ -37,19 +37,19 @@ fn tell_cause<H: HubCalls<N>, N: Opened>(timer: &mut Timer<'_, '_, H, N>, at: us
     if !may_tell(now, *last) {
         return;
     }
-    let count = timer.context.shared.losses.take(*cause);
+    let count = timer.context.epoch.losses.take(*cause);
     if count == 0 {
         return;
     }
     *last = Some(now);
-    let to = timer.context.shared.losses.take_destination(*cause);
+    let to = timer.context.epoch.losses.take_destination(*cause);
     if !timer.context.notices.lost(*cause, count, to) {
-        timer.context.shared.losses.give_back(*cause, count);
+        timer.context.epoch.losses.give_back(*cause, count);
     }
 }
 
 /// Tells what was lost, each cause once a minute at most.
-pub(crate) fn tell_losses<H: HubCalls<N>, N: Opened>(timer: &mut Timer<'_, '_, H, N>)
+pub(crate) fn tell_losses<H: HubCalls<Global, N>, N: Opened>(timer: &mut Timer<'_, '_, H, N>)
     ensures kept { (timer.new.context.seat ≡ timer.old.context.seat)
         × (counts_in timer.new.context.counting ≡ counts_in timer.old.context.counting)
         × (timer.new.context.outgoing ≡ timer.old.context.outgoing) }

@@ -11,13 +11,12 @@ ghost use Rattle.roam_workers.specs.Work.{HasWorked, HasWorkedTo};
 
 use crate::buffer::give_back;
 use crate::context::WorkerContext;
-use crate::ending::{Ending, WorkerEnd};
 use crate::hearing::Hearing;
-use crate::hub_calls::HubCalls;
 use crate::ready::{keep_ready, mark_all_ready, mark_ready, wait_before};
 use crate::worker_jobs::WorkerJobs;
+use crate::worker_result::{ExitReason, WorkerResult};
 use mio::{Events, Poll};
-use roam_history::Opened;
+use roam_history::{HubCalls, Opened};
 use roam_port::Heard;
 use roam_sockets::{Receiver, WAIT_AFTER_FAULT};
 use std::alloc::Global;
@@ -82,8 +81,8 @@ fn wait<R: Wait + Clock, H, N: Opened>(rt: &R, worker: &mut Worker<'_, '_, H, N>
     let wait = wait.min(worker.context.junk.time_left(now));
     let wait = wait.min(worker.context.exchanges.time_left(now, LINES_WITHIN));
     let wait = worker.context.outgoing.wait_for_room(wait);
-    let shared = worker.context.shared;
-    let wait = shared.wait_for_jobs(rt, worker.jobs.number, wait);
+    let epoch = worker.context.epoch;
+    let wait = epoch.wait_for_jobs(rt, worker.jobs.number, wait);
     let timeout = Some(Duration::from_millis(wait));
     if worker.poll.poll(&mut worker.events, timeout).is_ok() {
         mark_ready(
@@ -100,13 +99,13 @@ fn wait<R: Wait + Clock, H, N: Opened>(rt: &R, worker: &mut Worker<'_, '_, H, N>
 
 /// Takes what is heard at one socket, up to `IN_A_ROUND` datagrams: why the worker ends with it, if it does. Once all
 /// are to end it takes no other one: what is there waits for whoever serves next.
-fn take_portion<R: Wait + Clock, H: HubCalls<N>, N: Opened, T: Hearing>(
+fn take_portion<R: Wait + Clock, H: HubCalls<Global, N>, N: Opened, T: Hearing>(
     rt: &R,
     context: &mut WorkerContext<'_, '_, H, N>,
     jobs: &mut WorkerJobs<N>,
     receiver: &mut T,
     buffer: &mut Vec<u8>,
-) -> Option<Ending>
+) -> Option<ExitReason>
     ensures heard { HandlesEach N.opening T.hears
         (receiving context.old.seat context.old.counting context.old.outgoing context.old.datagrams
         jobs.old.for_others.items)
@@ -116,10 +115,10 @@ fn take_portion<R: Wait + Clock, H: HubCalls<N>, N: Opened, T: Hearing>(
     ensures worked { HasWorked N.opening (at_work context.old.seat context.old.counting context.old.outgoing)
         (at_work context.new.seat context.new.counting context.new.outgoing) }
 {
-    let alloc = context.shared.alloc;
+    let alloc = context.epoch.alloc;
     for _ in 0..IN_A_ROUND {
-        if context.shared.is_over() {
-            return Some(Ending::Stopped);
+        if context.epoch.is_over() {
+            return Some(ExitReason::Stopped);
         }
         match receiver.hear(alloc, buffer) {
             Heard::Datagram(datagram) => {
@@ -129,14 +128,14 @@ fn take_portion<R: Wait + Clock, H: HubCalls<N>, N: Opened, T: Hearing>(
                 give_back(buffer, datagram);
             }
             Heard::Nothing => return None,
-            Heard::GiveUp => return Some(Ending::GaveUp),
+            Heard::GiveUp => return Some(ExitReason::GaveUp),
         }
     }
     None
 }
 
 /// Looks at the clock where receives failed: for how long, is counted from then on.
-fn look_after_faults<R: Clock, H: HubCalls<N>, N: Opened>(
+fn look_after_faults<R: Clock, H: HubCalls<Global, N>, N: Opened>(
     rt: &R,
     context: &mut WorkerContext<'_, '_, H, N>,
     faults: u32,
@@ -151,14 +150,13 @@ fn look_after_faults<R: Clock, H: HubCalls<N>, N: Opened>(
 }
 
 /// Takes what arrived at one socket, and sends what that gives: why the worker ends with it, if it does.
-fn receive_portion<R: Wait + Clock, H: HubCalls<N>, N: Opened>(
+fn receive_portion<R: Wait + Clock, H: HubCalls<Global, N>, N: Opened>(
     rt: &R,
-    alloc: Global,
     context: &mut WorkerContext<'_, '_, H, N>,
     jobs: &mut WorkerJobs<N>,
     receiver: &mut Receiver<'_>,
     buffer: &mut Vec<u8>,
-) -> Option<Ending>
+) -> Option<ExitReason>
     ensures { HasWorked N.opening (at_work context.old.seat context.old.counting context.old.outgoing)
         (at_work context.new.seat context.new.counting context.new.outgoing) }
 {
@@ -173,12 +171,11 @@ fn receive_portion<R: Wait + Clock, H: HubCalls<N>, N: Opened>(
 /// Takes what arrived at the socket at a place among those that are marked, where it is to be received from now: why
 /// the worker ends with it, if it does.
 #[tactic(auto, using(crate::proofs::WorkLemmas::worked_none))]
-fn receive_at<R: Wait + Clock, H: HubCalls<N>, N: Opened>(
+fn receive_at<R: Wait + Clock, H: HubCalls<Global, N>, N: Opened>(
     rt: &R,
-    alloc: Global,
     worker: &mut Worker<'_, '_, H, N>,
     place: usize,
-) -> Option<Ending>
+) -> Option<ExitReason>
     ensures { HasWorked N.opening
         (at_work worker.old.context.seat worker.old.context.counting worker.old.context.outgoing)
         (at_work worker.new.context.seat worker.new.context.counting worker.new.context.outgoing) }
@@ -195,7 +192,6 @@ fn receive_at<R: Wait + Clock, H: HubCalls<N>, N: Opened>(
     worker.context.look_at_clock(rt);
     receive_portion(
         rt,
-        alloc,
         &mut worker.context,
         &mut worker.jobs,
         receiver,
@@ -204,17 +200,16 @@ fn receive_at<R: Wait + Clock, H: HubCalls<N>, N: Opened>(
 }
 
 /// Takes what arrived at the sockets that are marked: why the worker ends with it, if it does.
-fn receive_all<R: Wait + Clock, H: HubCalls<N>, N: Opened>(
+fn receive_all<R: Wait + Clock, H: HubCalls<Global, N>, N: Opened>(
     rt: &R,
-    alloc: Global,
     worker: &mut Worker<'_, '_, H, N>,
-) -> Option<Ending>
+) -> Option<ExitReason>
     ensures { HasWorked N.opening
         (at_work worker.old.context.seat worker.old.context.counting worker.old.context.outgoing)
         (at_work worker.new.context.seat worker.new.context.counting worker.new.context.outgoing) }
 {
     for place in 0..worker.ready.len() {
-        let ending = receive_at(rt, alloc, worker, place);
+        let ending = receive_at(rt, worker, place);
         if ending.is_some() {
             return ending;
         }
@@ -223,22 +218,21 @@ fn receive_all<R: Wait + Clock, H: HubCalls<N>, N: Opened>(
 }
 
 /// Does one round over the sockets. Returns why the worker ends with it, if it does.
-fn round<R: Wait + Clock, H: HubCalls<N>, N: Opened>(
+fn round<R: Wait + Clock, H: HubCalls<Global, N>, N: Opened>(
     rt: &R,
-    alloc: Global,
     worker: &mut Worker<'_, '_, H, N>,
-) -> Option<Ending>
+) -> Option<ExitReason>
     ensures { HasWorked N.opening
         (at_work worker.old.context.seat worker.old.context.counting worker.old.context.outgoing)
         (at_work worker.new.context.seat worker.new.context.counting worker.new.context.outgoing) }
 {
     wait(rt, worker);
-    if worker.context.shared.is_over() {
-        return Some(Ending::Stopped);
+    if worker.context.epoch.is_over() {
+        return Some(ExitReason::Stopped);
     }
     worker.context.look_at_clock(rt);
     worker.context.take_queued(rt, &mut worker.jobs, true);
-    let ending = receive_all(rt, alloc, worker);
+    let ending = receive_all(rt, worker);
     worker.context.tick_own(rt, worker.jobs.number);
     keep_ready(worker.receivers.as_slice(), &mut worker.ready);
     worker.context.wake_logger(LINES_WITHIN);
@@ -246,7 +240,7 @@ fn round<R: Wait + Clock, H: HubCalls<N>, N: Opened>(
 }
 
 /// Hands on and takes over the rest of its jobs.
-fn end_jobs<R: Wait, H: HubCalls<N>, N: Opened>(rt: &R, worker: &mut Worker<'_, '_, H, N>)
+fn end_jobs<R: Wait, H: HubCalls<Global, N>, N: Opened>(rt: &R, worker: &mut Worker<'_, '_, H, N>)
     ensures worked { HasWorked N.opening
         (at_work worker.old.context.seat worker.old.context.counting worker.old.context.outgoing)
         (at_work worker.new.context.seat worker.new.context.counting worker.new.context.outgoing) }
@@ -255,9 +249,9 @@ fn end_jobs<R: Wait, H: HubCalls<N>, N: Opened>(rt: &R, worker: &mut Worker<'_, 
     worker.context.end_jobs(rt, &mut worker.jobs);
 }
 
-impl<H: HubCalls<N>, N: Opened> Worker<'_, '_, H, N> {
+impl<H: HubCalls<Global, N>, N: Opened> Worker<'_, '_, H, N> {
     /// Gives back what its context does.
-    fn leave(self, ending: Ending) -> WorkerEnd<N>
+    fn leave(self, ending: ExitReason) -> WorkerResult<N>
         requires { HoldsNone self.jobs.for_others.items (λ q. q.items) }
         ensures seat { result.seat ≡ self.entry.context.seat }
         ensures jobs { result.jobs ≡ self.entry.jobs.counts }
@@ -280,17 +274,16 @@ impl<H: HubCalls<N>, N: Opened> Worker<'_, '_, H, N> {
 }
 
 /// Receives from sockets until the server ends.
-pub fn receive_on<R: Wait + Clock, H: HubCalls<N>, N: Opened>(
+pub fn receive_on<R: Wait + Clock, H: HubCalls<Global, N>, N: Opened>(
     rt: &R,
-    alloc: Global,
     mut worker: Worker<'_, '_, H, N>,
-) -> WorkerEnd<N>
+) -> WorkerResult<N>
     ensures { HasWorkedTo N.opening
         (at_work worker.entry.context.seat worker.entry.context.counting worker.entry.context.outgoing)
         result.seat result.outbox }
 {
     for _ in rt.forever() {
-        if let Some(ending) = round(rt, alloc, &mut worker) {
+        if let Some(ending) = round(rt, &mut worker) {
             end_jobs(rt, &mut worker);
             return worker.leave(ending);
         }

@@ -12,7 +12,7 @@ use crate::caller::{OTHER_FIRST, OTHER_REQUEST_7, datagram, nas, sends};
 use crate::configuration::config_of;
 use roam_admission::{Prepared, prepare};
 use roam_conf::{Address, Config, Endpoint, ExchangeLines, Place};
-use roam_hub::{Blanks, Call, Hub, Open, Opened, Paused, PausedHub, Seat};
+use roam_hub::{Blanks, Call, Hub, HubCalls, Opened, Paused, PausedHub, Seat};
 use roam_realm::Start;
 use roam_reload::hindrance_of;
 use std::alloc::{Allocator, Global};
@@ -160,12 +160,10 @@ fn is_answered<A: Allocator + Copy, N: Opened, R: Abort + Wait>(
         return false;
     };
     let call = Call {
-        rt,
-        gate: &Open,
         moment: 0,
         lines: ExchangeLines::OfNone,
     };
-    match hub.answer(call, seat, job) {
+    match hub.answer(rt, call, seat, job) {
         Ok(answered) => sends(rt, alloc, &answered.answer, exchange.sent),
         Err(_) => false,
     }

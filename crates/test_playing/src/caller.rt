@@ -10,7 +10,7 @@ use roam_admission::{Datagram, Job, Prepared, prepare};
 use roam_conf::Config;
 use roam_core::Event;
 use roam_exchange::{Answer, one_packet};
-use roam_hub::{Hub, HubFault, Open, Opened, Receipt, Seat};
+use roam_hub::{Hub, HubCalls, HubFault, Open, Opened, Receipt, Seat};
 use std::alloc::Allocator;
 use std::sync::Wait;
 

@@ -6,9 +6,8 @@ ghost use Rattle.roam_shard.specs.Turns.{NothingDue};
 ghost use Rattle.roam_history.specs.Moments.{IsTickMoment};
 ghost use Rattle.roam_history.specs.Calls.{IsLook, Sees, TicksIfDue};
 
-use crate::call::Call;
 use crate::locked_trace::LockedTrace;
-use roam_history::{HubFault, Opened, Seat, Ticked, moment_of_tick};
+use roam_history::{Call, HubFault, Opened, Seat, Ticked, moment_of_tick};
 use std::alloc::Allocator;
 use std::sync::Wait;
 
@@ -34,14 +33,15 @@ impl<'c, A: Allocator + Copy, N: Opened> LockedTrace<'c, A, N> {
 
     /// Does a tick of this shard where something is due in it, at a moment that parts what is due. Returns `None`
     /// where nothing is: nothing is stored then.
-    pub(crate) fn tick_if_due<R: Wait, G>(
+    pub(crate) fn tick_if_due<R: Wait>(
         &mut self,
-        call: Call<'_, R, G>,
+        rt: &R,
+        call: Call,
         seat: &mut Seat<A, N>,
         shard: u16,
     ) -> Result<Option<Ticked<A>>, HubFault>
         requires { shard < N.opening.config.shards }
-        ensures tick { TicksIfDue N.opening call.entry.lines shard call.entry.moment seat.old seat.new result }
+        ensures tick { TicksIfDue N.opening call.lines shard call.moment seat.old seat.new result }
         ensures no_shard { IfErr result (λ f. f ≢ HubFault.NoShard) }
     {
         self.check(seat, shard)?;
@@ -53,12 +53,10 @@ impl<'c, A: Allocator + Copy, N: Opened> LockedTrace<'c, A, N> {
             }
             Some(moment) => {
                 let part = Call {
-                    rt: call.rt,
-                    gate: call.gate,
                     moment,
                     lines: call.lines,
                 };
-                let answered = self.tick(part, seat, shard)?;
+                let answered = self.tick(rt, part, seat, shard)?;
                 let is_more = self.has_due(now);
                 Ok(Some(Ticked {
                     moment,

@@ -3,33 +3,34 @@ use Rattle.std.proofs.Common.{refl, ◌∙◌}
 use Rattle.roam_server.proofs.ServedLemmas.{all-served, served-begun}
 use Rattle.roam_server.proofs.serving.serve_all.Goals as goal
 
-pub serve_once-requires-clause-paused : goal.serve_once-requires-clause-paused
-serve_once-requires-clause-paused g c lives outlives = c.in_ok-begun.ensures.ok.1.paused
-
 pub loop-init : goal.loop-init
 loop-init g c =
-    let begun = c.in_ok-begun.ensures.ok in
-    let served = c.in_ok-served.ensures.ok in
+    let begun = c.in_ok-begin.ensures.ok in
     record {
-      paused = served.paused;
-      done = (begun.0, served.goes_on _ (served-begun _ _ _ begun.1));
-      may = served.may;
+      paused = begun.1.paused;
+      done = (begun.0, served-begun _ _ _ begun.1);
       count = refl;
+      blanks = c.requires;
+      fault = _;
     }
 
 pub loop-preserved : goal.loop-preserved
 loop-preserved g c =
-    let served = c.in_ok-served-2.ensures.ok in
-    let first = c.in_ok-first.ensures.ok in
-    let changed = c.change-changed.ensures in
+    let served = c.in_ok-serve_ready.ensures.ok in
+    let after = c.in_ok-after_epoch.ensures in
     let before = c.loop.invariant.done in
     record {
-      paused = served.paused;
-      done = (before.0, served.goes_on _ (first.goes_on _ (changed.goes_on _ before.1)));
-      may = served.may;
-      count = changed.count ∙ c.loop.invariant.count;
+      paused = after.paused;
+      done = (before.0, after.goes_on _ (served.goes_on _ before.1));
+      count = after.count ∙ c.loop.invariant.count;
+      blanks = after.blanks;
+      fault = after.fault;
     }
 
-pub returns-in-Over-clause-ok : goal.returns-in-Over-clause-ok
-returns-in-Over-clause-ok g c =
-    all-served _ _ c.loop.invariant.done.0 _ c.loop.invariant.done.1 c.loop.invariant.paused c.loop.invariant.count
+pub returns-in-None-clause-ok : goal.returns-in-None-clause-ok
+returns-in-None-clause-ok g c =
+    let served = c.in_ok-serve_ready.ensures.ok in
+    let after = c.in_ok-after_epoch.ensures in
+    let before = c.loop.invariant.done in
+    all-served _ _ before.0 _ (after.goes_on _ (served.goes_on _ before.1)) after.paused
+    (after.count ∙ c.loop.invariant.count)

@@ -18,7 +18,7 @@ pub returns-then-eq-clause-answered : goal.returns-then-eq-clause-answered
 returns-then-eq-clause-answered g c =
     let o = g.N.Opened.opening in
     let self = c.args.self.now in
-    let lines = self.shared.now.told_exchanges in
+    let lines = self.epoch.now.told_exchanges in
     let middle = c.answer.new.self in
     let new = c.answer_without_session.new.self in
     IfOk-weaker c.answer_without_session.result

@@ -12,7 +12,7 @@ returns-in-Some g c =
     let self = c.args.self.now in
     let new = c.handle.new.self in
     let out = c.handle.new.jobs.for_others.items in
-    arrived_here g.N.Opened.opening self.shared.now.told_exchanges self.now (shown_arrival c.args.datagram.now)
+    arrived_here g.N.Opened.opening self.epoch.now.told_exchanges self.now (shown_arrival c.args.datagram.now)
     (receiving self.seat self.counting self.outgoing self.datagrams c.args.jobs.now.for_others.items)
     (receiving new.seat new.counting new.outgoing c.after-self.result out) _ c.in-Some.handling
     c.in-Some.ensures.handled.0

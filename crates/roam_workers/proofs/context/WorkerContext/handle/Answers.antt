@@ -20,9 +20,9 @@ use Rattle.roam_workers.proofs.context.WorkerContext.handle.Goals as goal
 pub take_or_hand-requires-clause-admission : goal.take_or_hand-requires-clause-admission
 take_or_hand-requires-clause-admission g c =
     let d = shown_arrival c.args.datagram.now in
-    let shared = c.args.self.now.shared.now in
-    job_is _ _ d c.in-Ok-Job.job shared.same
-    (subst (λ (p : Prepared Global). IsAdmission (Ok p) (admission (shown shared.config.now) d))
+    let epoch = c.args.self.now.epoch.now in
+    job_is _ _ d c.in-Ok-Job.job epoch.same
+    (subst (λ (p : Prepared Global). IsAdmission (Ok p) (admission (shown epoch.config.now) d))
     c.in-Ok-Job.field-0-is
     c.in-Ok-Job.ensures.answer)
 
@@ -30,19 +30,19 @@ pub returns-in-Ok-Answered-clause-handled : goal.returns-in-Ok-Answered-clause-h
 returns-in-Ok-Answered-clause-handled g c =
     let d = shown_arrival c.args.datagram.now in
     let self = c.args.self.now in
-    let shared = self.shared.now in
+    let epoch = self.epoch.now in
     let out = c.in-Ok-Answered.out in
     let here : IsAnsweredHere g.N.Opened.opening d (at_work self.seat self.counting self.outgoing)
     (at_work c.tell_local.new.self.seat c.tell_local.new.self.counting c.put.new.self) = record {
       what = c.in-Ok-Answered.what;
       out = shown_out out;
-      admission_is = answer_is _ _ d c.in-Ok-Answered.what out shared.same
-          (subst (λ (p : Prepared Global). IsAdmission (Ok p) (admission (shown shared.config.now) d))
+      admission_is = answer_is _ _ d c.in-Ok-Answered.what out epoch.same
+          (subst (λ (p : Prepared Global). IsAdmission (Ok p) (admission (shown epoch.config.now) d))
           c.in-Ok-Answered.field-0-is c.in-Ok-Answered.ensures.answer);
       seat = c.tell_local.ensures.kept.0;
       counts = c.tell_local.ensures.kept.3 ∙ c.answered.ensures
           ∙ (λ i. raised_all (counts_in self.counting)
-          (local_increments (end_at (shared.same i) out.from out.to) (c.code.ensures i)));
+          (local_increments (end_at (epoch.same i) out.from out.to) (c.code.ensures i)));
       sends = puts_from _ _ _ _ (ap outbox_in c.tell_local.ensures.kept.4) c.put.ensures;
     } in
     (here, refl)
@@ -52,19 +52,19 @@ returns-in-Err-clause-handled g c =
     let o = g.N.Opened.opening in
     let d = shown_arrival c.args.datagram.now in
     let self = c.args.self.now in
-    let lines = self.shared.now.told_exchanges in
+    let lines = self.epoch.now.told_exchanges in
     let new = at_work c.refuse.new.self.seat c.refuse.new.self.counting c.refuse.new.self.outgoing in (
       subst (IsHandled o lines self.now d (at_work self.seat self.counting self.outgoing) new) (sym
           c.refused_as.ensures)
           (refusal_is o lines _ self.now d c.in-Err.refusal (at_work self.seat self.counting self.outgoing) new
-          self.shared.now.same
+          self.epoch.now.same
           c.in-Err.ensures.answer
           (λ (none : c.in-Err.refusal ≡ refusal.NoMemory).
           c.in-Err.ensures.memory (ap Err none))
           c.refuse.ensures.kept.0
           (c.refuse.ensures.kept.3 ∙ c.refused.ensures
           ∙ (λ i. raised_all (counts_in self.counting)
-          (refused_increments d.at (end_at (self.shared.now.same i) d.at d.from) c.in-Err.refusal)))
+          (refused_increments d.at (end_at (self.epoch.now.same i) d.at d.from) c.in-Err.refusal)))
           (ap outbox_in c.refuse.ensures.kept.4)),
       refl,
     )

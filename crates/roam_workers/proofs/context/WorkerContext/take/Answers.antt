@@ -36,7 +36,7 @@ returns-in-Ok-clause-handled g c =
       counts = c.finish.ensures.kept.3 ∙ c.end_by.ensures.kept.3 ∙ c.gave.ensures
           ∙ (λ i. raised_all (there i)
           (job_increments (given i) happening (c.answer_or_lose.ensures.kept.1 i)
-          (wait_of (self.shared.now.same i) (given i).realm)))
+          (wait_of (self.epoch.now.same i) (given i).realm)))
           ∙ ap waits (realm_given job is_lost);
       sends = puts_from _ _ _ _ (ap outbox_in (c.end_by.ensures.kept.4 ∙ c.answer_or_lose.ensures.kept.3))
           c.finish.ensures.sends;

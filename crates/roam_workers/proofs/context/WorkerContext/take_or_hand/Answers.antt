@@ -10,7 +10,7 @@ returns-in-None-clause-handed g c =
     let self = c.args.self.now in (
       handed_on g.N.Opened.opening (shown_arrival c.args.datagram.now) c.args.jobs.now.for_others.items
           c.set_aside.new.self.for_others.items _ (shown_job c.args.job) c.from-worker.result c.requires.admission
-          (c.from-worker.ensures ∙ c.shard_of.ensures.value ∙ (λ i. c.args.job.realm % (self.shared.now.same i).shards))
+          (c.from-worker.ensures ∙ c.shard_of.ensures.value ∙ (λ i. c.args.job.realm % (self.epoch.now.same i).shards))
           c.in-None.ensures.aside,
       refl,
     )

@@ -1,7 +1,0 @@
-use Rattle.roam_sessions.specs.Ledgers.{head}
-use Rattle.roam_realm.specs.Written.{GainsItems}
-use Rattle.roam_admin_thread.proofs.saving.ledgers_of.Given as goal
-
--- what was written so far
-abbrev pub invariant-loop-index : goal.invariant-loop-index
-invariant-loop-index g l = GainsItems head l.writing
