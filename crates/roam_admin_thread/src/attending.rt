@@ -90,7 +90,7 @@ impl<R: Threads + Wait + Clock + Net + Log + Sync, H: HubCalls<N>, N: Opened> At
         let shared = self.shared;
         shared
             .counters?
-            .of_thread(usize::from(shared.config.top.shards))
+            .of_thread(usize::from(shared.config.parts.top.shards))
     }
 
     /// Returns what was counted, and how all stands; none where nothing is counted.
@@ -154,7 +154,7 @@ impl<R: Threads + Wait + Clock + Net + Log + Sync, H: HubCalls<N>, N: Opened> At
 
     /// Lets go of all stored steps, so that they needn't be freed while nobody serves.
     fn let_go_all(&mut self) {
-        for shard in 0..self.shared.config.top.shards {
+        for shard in 0..self.shared.config.parts.top.shards {
             if let Ok(steps) = self.shared.hub.let_go(self.rt, &mut self.seat, shard) {
                 if !steps.is_empty() {
                     self.count_gone(shard, steps.len());

@@ -29,12 +29,12 @@ impl FreshMeans {
         configured: &Configured,
         wanted: u32,
     ) -> Result<FreshMeans, ServeFault>
-        ensures blanks { IfOk result (λ fresh. count_of fresh.blanks ≡ configured.now.config.top.shards) }
+        ensures blanks { IfOk result (λ fresh. count_of fresh.blanks ≡ configured.now.config.parts.top.shards) }
         ensures err { IfErr result IsAfterBinding }
     {
         let config = &configured.config;
         let sockets = configured.sockets.as_slice();
-        let blanks = Blanks::new(alloc, config.top.shards)?;
+        let blanks = Blanks::new(alloc, config.parts.top.shards)?;
         let rests = Rests::new(alloc, config)?;
         let kits = make_kits(
             rt,

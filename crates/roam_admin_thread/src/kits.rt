@@ -178,7 +178,7 @@ pub fn make_kits<R: Net>(
     ensures { IfErr result IsAfterBinding }
 {
     let timer = make_polls(rt, wanted)?;
-    let polls = worker_polls(rt, alloc, config.top.shards, wanted)?;
+    let polls = worker_polls(rt, alloc, config.parts.top.shards, wanted)?;
     let wakers = make_wakers(alloc, &timer, polls.as_slice(), wanted)?;
     let workers = make_worker_kits(alloc, polls, sockets, told)?;
     let timer = make_kit(alloc, timer, told, 0)?;

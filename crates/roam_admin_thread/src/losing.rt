@@ -51,7 +51,11 @@ fn changed_of<H, N: Opened>(
         AreChanged N.opening.config.peers (shown next.now).peers changed.items) }
 {
     let alloc = shared.alloc;
-    match changed_peers(alloc, shared.config.peers.as_slice(), next.peers.as_slice()) {
+    match changed_peers(
+        alloc,
+        shared.config.parts.peers.as_slice(),
+        next.parts.peers.as_slice(),
+    ) {
         Ok(changed) => Ok(changed),
         Err(_) => Err(AllocError),
     }
@@ -66,7 +70,7 @@ fn all_losses<R: Wait, H: HubCalls<N>, N: Opened>(
 ) -> Result<Vec<Loss>, AllocError> {
     let changed = changed_of(shared, next)?;
     let mut losses = Vec::new(shared.alloc);
-    for realm in 0..shared.config.realms.len() {
+    for realm in 0..shared.config.parts.realms.len() {
         let loss = loss_at(rt, shared, seat, realm as u16, next, changed.as_slice());
         losses.push(loss)?;
     }
@@ -99,7 +103,7 @@ fn change_of(before: &Realm, next: Option<&Config>, realm: usize) -> &'static st
     let Some(next) = next else {
         return "";
     };
-    match next.realms.get(realm) {
+    match next.parts.realms.get(realm) {
         Some(after) if !after.gone => table_change(before, after),
         _ => ": it is no longer in the file",
     }
@@ -121,7 +125,7 @@ fn push_line(text: &mut Vec<u8>, name: &str, loss: &Loss, change: &str) -> bool 
 /// how one agrees to that, as far as there is memory.
 fn why_not(alloc: Global, config: &Config, next: Option<&Config>, losses: &[Loss]) -> Vec<u8> {
     let mut text = Vec::new(alloc);
-    for (index, (realm, loss)) in config.realms.iter().zip(losses.iter()).enumerate() {
+    for (index, (realm, loss)) in config.parts.realms.iter().zip(losses.iter()).enumerate() {
         if !is_nothing(loss) {
             let change = change_of(realm, next, index);
             let _is_said = push_line(&mut text, realm.name.as_str(), loss, change);
@@ -140,7 +144,7 @@ pub fn declined_for(alloc: Global, config: &Config, losses: &[Loss]) -> Reply {
 
 /// Tells what went of each realm of a configuration, by their indexes, where another one followed it.
 pub fn tell_what_went<R: Log>(rt: &R, config: &Config, losses: &[Loss]) {
-    for (realm, loss) in config.realms.iter().zip(losses.iter()) {
+    for (realm, loss) in config.parts.realms.iter().zip(losses.iter()) {
         tell_dropped(
             rt,
             DroppedText {
@@ -176,7 +180,7 @@ impl<R: Wait + Log, H: HubCalls<N>, N: Opened> Attendant<'_, '_, R, H, N> {
     /// Returns how a realm stands that is here, by its index.
     fn standing_of(&self, index: u16) -> Option<Gauges> {
         let shared = self.shared;
-        match shared.config.realms.get(usize::from(index)) {
+        match shared.config.parts.realms.get(usize::from(index)) {
             Some(realm) if !realm.gone => shared.hub.look(self.rt, &self.seat, index),
             _ => None,
         }
@@ -184,7 +188,7 @@ impl<R: Wait + Log, H: HubCalls<N>, N: Opened> Attendant<'_, '_, R, H, N> {
 
     /// Tells what the realm of an index drops, since the server ends.
     fn tell_end_of(&self, index: u16, waiting: u64, sessions: u64) {
-        if let Some(realm) = self.shared.config.realms.get(usize::from(index)) {
+        if let Some(realm) = self.shared.config.parts.realms.get(usize::from(index)) {
             let dropped = DroppedText {
                 cause: DropCause::End,
                 realm: realm.name.as_str(),
@@ -199,7 +203,7 @@ impl<R: Wait + Log, H: HubCalls<N>, N: Opened> Attendant<'_, '_, R, H, N> {
     /// Tells what all realms drop, since the server ends: the requests that wait, and the sessions where no file is to
     /// keep them.
     pub fn tell_dropped_at_end(&self) {
-        for index in 0..self.shared.config.realms.len() {
+        for index in 0..self.shared.config.parts.realms.len() {
             if let Some(gauges) = self.standing_of(index as u16) {
                 let sessions = match self.state {
                     Some(_) => 0,
@@ -212,7 +216,7 @@ impl<R: Wait + Log, H: HubCalls<N>, N: Opened> Attendant<'_, '_, R, H, N> {
 
     /// Tells of how many sessions of all realms no file has that were to be kept in one at the end.
     pub fn tell_unkept_at_end(&self) {
-        for index in 0..self.shared.config.realms.len() {
+        for index in 0..self.shared.config.parts.realms.len() {
             if let Some(gauges) = self.standing_of(index as u16) {
                 self.tell_end_of(index as u16, 0, gauges.sessions as u64);
             }

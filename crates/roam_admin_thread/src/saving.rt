@@ -75,10 +75,10 @@ fn write_if_here<R: Wait, H: HubCalls<N>, N: Opened>(
     index: usize,
     writing: &mut Writing<Global>,
 ) -> Result<(), AllocError>
-    requires { index < vec_len shared.now.config.now.realms }
+    requires { index < vec_len shared.now.config.now.parts.realms }
     ensures { OnOk result (GainsItems writing.old writing.new) }
 {
-    if shared.config.realms[index].gone {
+    if shared.config.parts.realms[index].gone {
         return Ok(());
     }
     write_realm(rt, shared, seat, index as u16, writing)?;
@@ -94,7 +94,7 @@ pub fn ledgers_of<R: Wait, H: HubCalls<N>, N: Opened>(
     ensures { IfOk result (λ octets. (items : List SavedItem) × (octets.items ≡ ledgers_text items)) }
 {
     let mut writing = Writing::new(shared.alloc)?;
-    for index in 0..shared.config.realms.len() {
+    for index in 0..shared.config.parts.realms.len() {
         write_if_here(rt, shared, seat, index, &mut writing)?;
     }
     let octets = writing.finish()?;

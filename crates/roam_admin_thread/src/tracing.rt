@@ -27,7 +27,12 @@ impl<R: Threads + Wait + Clock + Net + Log + Sync, H: HubCalls<N>, N: Opened> At
         steps: &[Step<Global>],
     ) -> Result<Vec<u8>, AllocError> {
         let alloc = self.shared.alloc;
-        let numbering = Numbering::new(alloc, self.order, shard, self.shared.config.top.shards)?;
+        let numbering = Numbering::new(
+            alloc,
+            self.order,
+            shard,
+            self.shared.config.parts.top.shards,
+        )?;
         script_of(alloc, missing, &numbering, steps)
     }
 

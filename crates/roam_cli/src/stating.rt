@@ -121,16 +121,16 @@ fn state_seed(text: &mut StatedText, seed: &[u8; 32]) {
 
 /// States what isn't in a table, but for how it is served.
 fn state_top(text: &mut StatedText, config: &Config) {
-    text.put_value("shards", config.top.shards);
-    state_seed(text, &config.top.seed);
-    state_endpoints(text, "auth", config.auth.as_slice());
-    state_endpoints(text, "acct", config.acct.as_slice());
-    text.put_value("trace_limit", config.top.trace_limit);
-    text.put_value("trace_octets", config.top.trace_octets);
-    state_number(text, "max_hops", config.top.max_hops);
-    state_number(text, "max_attributes", config.top.max_attributes);
-    text.put_value("status_server", config.top.status_server);
-    text.put_value("spread", config.top.spread);
+    text.put_value("shards", config.parts.top.shards);
+    state_seed(text, &config.parts.top.seed);
+    state_endpoints(text, "auth", config.parts.auth.as_slice());
+    state_endpoints(text, "acct", config.parts.acct.as_slice());
+    text.put_value("trace_limit", config.parts.top.trace_limit);
+    text.put_value("trace_octets", config.parts.top.trace_octets);
+    state_number(text, "max_hops", config.parts.top.max_hops);
+    state_number(text, "max_attributes", config.parts.top.max_attributes);
+    text.put_value("status_server", config.parts.top.status_server);
+    text.put_value("spread", config.parts.top.spread);
 }
 
 /// States of which exchanges a line tells, and how lines have a station.
@@ -272,14 +272,14 @@ fn state_realm(text: &mut StatedText, realm: &Realm) {
 fn state(text: &mut StatedText, config: &Config, settings: &Settings) {
     state_top(text, config);
     state_settings(text, settings);
-    state_items(text, "reject", config.reject.as_slice());
-    text.put_value("well_formed", config.top.well_formed);
-    text.put_value("answer_unnamed", config.top.answer_unnamed);
-    state_number(text, "fresh", config.top.fresh);
-    for peer in &config.peers {
+    state_items(text, "reject", config.parts.reject.as_slice());
+    text.put_value("well_formed", config.parts.top.well_formed);
+    text.put_value("answer_unnamed", config.parts.top.answer_unnamed);
+    state_number(text, "fresh", config.parts.top.fresh);
+    for peer in &config.parts.peers {
         state_peer(text, peer);
     }
-    for realm in &config.realms {
+    for realm in &config.parts.realms {
         state_realm(text, realm);
     }
 }

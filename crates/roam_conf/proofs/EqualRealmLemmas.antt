@@ -7,13 +7,14 @@ use Rattle.std.specs.Cmp.Lexicographic.{pointwise}
 use Rattle.std.specs.Option.{option_eq}
 use Rattle.std.specs.String.{string_eq}
 use Rattle.roam_conf.specs.declared.config.Config.{Config}
+use Rattle.roam_conf.specs.declared.parts.ConfigParts.{ConfigParts}
 use Rattle.roam_conf.specs.declared.realm.Realm.{Realm}
 use Rattle.roam_conf.specs.Config.{RealmView, ConfigView}
 use Rattle.roam_conf.specs.Parts.{shown_server, shown_client, shown_names, shown_peer, shown_realm}
 use Rattle.roam_conf.specs.Patterns.{shown_pattern}
-use Rattle.roam_conf.specs.Shown.{shown}
+use Rattle.roam_conf.specs.Shown.{shown, shown_parts}
 use Rattle.roam_conf.proofs.EqualLemmas.{server_eq, server_decides, client_eq, client_decides, peer_eq, peer_decides}
-use Rattle.roam_conf.proofs.EqualTopLemmas.{SameTop, top_eq, top_decides}
+use Rattle.roam_conf.proofs.EqualTopLemmas.{top_eq, top_decides}
 use Rattle.roam_conf.proofs.EqualPartsLemmas.{list_decides, whole_list_decides, option_decides, whole_option_decides, text_decides, endpoint_eq, endpoint_decides, removed_eq, removed_decides, accounting_eq, accounting_decides, pattern_eq, pattern_decides, names_eq, names_decides}
 
 -- the tests as the derives write them
@@ -45,15 +46,17 @@ realm_eq a b =
     (eqb a.rest_after b.rest_after &&
     (pointwise server_eq a.servers.items b.servers.items))))))))))))))))))))))))
 
-abbrev pub config_eq : Config → Config → Bool
-config_eq a b =
+abbrev pub parts_eq : ConfigParts → ConfigParts → Bool
+parts_eq a b =
     top_eq a.top b.top &&
     (pointwise endpoint_eq a.auth.items b.auth.items &&
     (pointwise endpoint_eq a.acct.items b.acct.items &&
     (pointwise pattern_eq a.reject.items b.reject.items &&
     (pointwise peer_eq a.peers.items b.peers.items &&
-    (pointwise realm_eq a.realms.items b.realms.items &&
-    (true))))))
+    (pointwise realm_eq a.realms.items b.realms.items)))))
+
+abbrev pub config_eq : Config → Config → Bool
+config_eq a b = parts_eq a.parts b.parts && true
 
 pub realm_decides : (a b : Realm) → Decides (realm_eq a b) (shown_realm a ≡ shown_realm b)
 realm_decides a b =
@@ -194,68 +197,23 @@ realm_decides a b =
     (Decides-and _ _ (Decides-eqb a.rest_after b.rest_after)
     (list_decides server_eq shown_server server_decides a.servers.items b.servers.items)))))))))))))))))))))))))
 
--- what is always true tells nothing more
-still_decides : {P : Type 0} (b : Bool) → Decides b P → Decides (b && true) P
-still_decides true decides = decides
-still_decides false decides = decides
-
--- two configurations are equal by `==` exactly where they show the same
-pub config_decides : (a b : Config) → Decides (config_eq a b) (shown a ≡ shown b)
-config_decides a b =
-    let v = shown a in
-    let w = shown b in
-    Decides-like {P = SameTop a.top b.top × ((v.auth ≡ w.auth) × ((v.acct ≡ w.acct) × ((v.reject ≡ w.reject)
+-- the parts of two configurations are equal by `==` exactly where they show the same
+pub parts_decides : (a b : ConfigParts) → Decides (parts_eq a b) (shown_parts a ≡ shown_parts b)
+parts_decides a b =
+    let v = shown_parts a in
+    let w = shown_parts b in
+    Decides-like {P = (v.top ≡ w.top) × ((v.auth ≡ w.auth) × ((v.acct ≡ w.acct) × ((v.reject ≡ w.reject)
     × ((v.peers ≡ w.peers) × (v.realms ≡ w.realms)))))} _
     (λ p. λ i. record {
-      shards = p.0.0 i;
-      seed = p.0.1.0 i;
+      top = p.0 i;
       auth = p.1.0 i;
       acct = p.1.1.0 i;
-      trace_limit = p.0.1.1.0 i;
-      trace_octets = p.0.1.1.1.0 i;
-      max_hops = p.0.1.1.1.1.0 i;
-      max_attributes = p.0.1.1.1.1.1.0 i;
-      status_server = p.0.1.1.1.1.1.1.0 i;
-      spread = p.0.1.1.1.1.1.1.1.0 i;
       reject = p.1.1.1.0 i;
-      well_formed = p.0.1.1.1.1.1.1.1.1.0 i;
-      answer_unnamed = p.0.1.1.1.1.1.1.1.1.1.0 i;
-      fresh = p.0.1.1.1.1.1.1.1.1.1.1 i;
       peers = p.1.1.1.1.0 i;
       realms = p.1.1.1.1.1 i;
     })
     (λ e. (
-      (
-        ap (λ (x : ConfigView). x.shards) e,
-        (
-          ap (λ (x : ConfigView). x.seed) e,
-          (
-            ap (λ (x : ConfigView). x.trace_limit) e,
-            (
-              ap (λ (x : ConfigView). x.trace_octets) e,
-              (
-                ap (λ (x : ConfigView). x.max_hops) e,
-                (
-                  ap (λ (x : ConfigView). x.max_attributes) e,
-                  (
-                    ap (λ (x : ConfigView). x.status_server) e,
-                    (
-                      ap (λ (x : ConfigView). x.spread) e,
-                      (
-                        ap (λ (x : ConfigView). x.well_formed) e,
-                        (
-                          ap (λ (x : ConfigView). x.answer_unnamed) e,
-                          ap (λ (x : ConfigView). x.fresh) e,
-                        ),
-                      ),
-                    ),
-                  ),
-                ),
-              ),
-            ),
-          ),
-        ),
-      ),
+      ap (λ (x : ConfigView). x.top) e,
       (
         ap (λ (x : ConfigView). x.auth) e,
         (
@@ -272,4 +230,13 @@ config_decides a b =
     (Decides-and _ _ (whole_list_decides endpoint_eq endpoint_decides a.acct.items b.acct.items)
     (Decides-and _ _ (list_decides pattern_eq shown_pattern pattern_decides a.reject.items b.reject.items)
     (Decides-and _ _ (list_decides peer_eq shown_peer peer_decides a.peers.items b.peers.items)
-    (still_decides _ (list_decides realm_eq shown_realm realm_decides a.realms.items b.realms.items)))))))
+    (list_decides realm_eq shown_realm realm_decides a.realms.items b.realms.items))))))
+
+-- what is always true tells nothing more
+still_decides : {P : Type 0} (b : Bool) → Decides b P → Decides (b && true) P
+still_decides true decides = decides
+still_decides false decides = decides
+
+-- and so are the configurations
+pub config_decides : (a b : Config) → Decides (config_eq a b) (shown a ≡ shown b)
+config_decides a b = still_decides _ (parts_decides a.parts b.parts)

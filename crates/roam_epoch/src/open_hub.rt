@@ -136,7 +136,7 @@ pub fn serve_over<
 ) -> Result<Served, Unserved>
     requires opening { N.opening ≡ opening_over (shown configured.now.config) shards.items }
     requires books { N.books ≡ books_of blanks }
-    requires blanks { count_of blanks ≡ configured.now.config.top.shards }
+    requires blanks { count_of blanks ≡ configured.now.config.parts.top.shards }
     requires paused { ArePaused (shown configured.now.config) shards.items }
     ensures ends { IfOk result (λ served. EndSomewhere N.opening served.shards.items) }
     ensures may { IfOk result (λ served. MayGoOn N.opening.config served.end) }

@@ -27,8 +27,8 @@ impl<'c, N: Opened> HubRoom<'c, N> {
     fn new(alloc: Global, config: &'c Config) -> Result<HubRoom<'c, N>, AllocError>
         requires { shown config.now ≡ N.opening.config }
     {
-        let threads = ThreadRoom::new(alloc, config.top.shards)?;
-        let queues = make_queues(alloc, config.top.shards)?;
+        let threads = ThreadRoom::new(alloc, config.parts.top.shards)?;
+        let queues = make_queues(alloc, config.parts.top.shards)?;
         match PauseRoom::new(alloc, config) {
             Ok(pause) => Ok(HubRoom {
                 pause,
@@ -65,7 +65,7 @@ impl<'c, N: Opened> OpenHub<'c, N> {
     ) -> Result<OpenHub<'c, N>, Vec<Paused<Global>>>
         requires opening { N.opening ≡ opening_over (shown config.now) shards.items }
         requires books { N.books ≡ books_of blanks }
-        requires blanks { count_of blanks ≡ config.now.top.shards }
+        requires blanks { count_of blanks ≡ config.now.parts.top.shards }
         requires paused { ArePaused (shown config.now) shards.items }
         ensures { IfErr result (λ back. back.items ≡ shards.items) }
     {
@@ -89,7 +89,7 @@ impl<'c, N: Opened> OpenHub<'c, N> {
     ) -> Result<OpenHub<'c, N>, Vec<Paused<Global>>>
         requires opening { N.opening ≡ opening_over (shown config.now) shards.items }
         requires books { N.books ≡ books_of blanks }
-        requires blanks { count_of blanks ≡ config.now.top.shards }
+        requires blanks { count_of blanks ≡ config.now.parts.top.shards }
         requires paused { ArePaused (shown config.now) shards.items }
         ensures { IfErr result (λ back. back.items ≡ shards.items) }
     {

@@ -99,7 +99,9 @@ impl<'s, 'c, H, N: Opened> Builder<'s, 'c, H, N> {
                     queues: Vec::new(alloc),
                     stations: shared.stations,
                     counts: match shared.counters {
-                        Some(counters) => counters.of_thread(usize::from(shared.config.top.shards)),
+                        Some(counters) => counters.of_thread(usize::from(
+                            shared.config.parts.top.shards,
+                        )),
                         None => None,
                     },
                     dropped: 0,
@@ -115,7 +117,7 @@ impl<'s, 'c, H, N: Opened> Builder<'s, 'c, H, N> {
     {
         let shared = self.shared;
         let numbers = socket_numbers(shared.config);
-        let workers = usize::from(shared.config.top.shards);
+        let workers = usize::from(shared.config.parts.top.shards);
         let ports = ports(shared.alloc, self.sockets, numbers, number, workers)?;
         let counting = counting_of(shared, number)?;
         let counts = counting.counts;
@@ -162,7 +164,7 @@ impl<'s, 'c, H, N: Opened> Builder<'s, 'c, H, N> {
         let receivers = receivers(alloc, self.sockets, number)?;
         let events = Events::with_capacity(alloc, receivers.len().saturating_add(2))?;
         let ready = Vec::with_capacity(alloc, receivers.len())?;
-        let shards = usize::from(self.shared.config.top.shards);
+        let shards = usize::from(self.shared.config.parts.top.shards);
         let jobs = WorkerJobs::new(alloc, number, shards, IN_A_ROUND as usize)?;
         let Equipped {
             context,
@@ -197,7 +199,7 @@ impl<'s, 'c, H, N: Opened> Builder<'s, 'c, H, N> {
         ensures { IfErr result IsAfterBinding }
     {
         let shared = self.shared;
-        let number = usize::from(shared.config.top.shards);
+        let number = usize::from(shared.config.parts.top.shards);
         let events = Events::with_capacity(shared.alloc, 2)?;
         let Equipped {
             context,

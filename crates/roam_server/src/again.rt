@@ -19,13 +19,13 @@ pub fn take_again<R: Net, S>(
     configured: &Configured,
     outboxes: &mut Vec<Outbox<Global>>,
 ) -> Result<FreshMeans, ServeFault>
-    ensures blanks { IfOk result (λ again. count_of again.blanks ≡ configured.now.config.top.shards) }
+    ensures blanks { IfOk result (λ again. count_of again.blanks ≡ configured.now.config.parts.top.shards) }
     ensures err { IfErr result IsAfterBinding }
 {
     let config = &configured.config;
     fill_outboxes(
         parts.alloc,
-        config.top.shards,
+        config.parts.top.shards,
         socket_numbers(config),
         outboxes,
     )?;

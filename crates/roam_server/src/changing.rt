@@ -47,7 +47,7 @@ fn count_losses(counters: &Option<Counters>, before: &Config, losses: &[Loss]) {
     let Some(counters) = counters else {
         return;
     };
-    for realm in 0..before.realms.len() {
+    for realm in 0..before.parts.realms.len() {
         if let Some(loss) = losses.get(realm) {
             let (waiting, held) = (loss.waiting as u64, loss.held as u64);
             counters.dropped(realm as u16, waiting, held, loss.sessions as u64);
@@ -129,8 +129,8 @@ pub fn change<R: Log, S>(
     ensures paused { ArePaused (shown configured.new.config) shards.new.items }
     ensures goes_on { GoOn (shown configured.old.config) shards.old.items
         (shown configured.new.config) shards.new.items }
-    ensures count { configured.new.config.top.shards ≡ configured.old.config.top.shards }
-    ensures blanks { count_of result.blanks ≡ configured.new.config.top.shards }
+    ensures count { configured.new.config.parts.top.shards ≡ configured.old.config.parts.top.shards }
+    ensures blanks { count_of result.blanks ≡ configured.new.config.parts.top.shards }
 {
     let Next {
         configured: mut after,

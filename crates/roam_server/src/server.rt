@@ -175,7 +175,7 @@ fn first_means<R: Net>(
     let wanted = descriptors_wanted(config, config);
     Ok(Means {
         kits: make_kits(rt, alloc, config, sockets, told, wanted)?,
-        outboxes: make_outboxes(alloc, config.top.shards, socket_numbers(config))?,
+        outboxes: make_outboxes(alloc, config.parts.top.shards, socket_numbers(config))?,
         rests: Rests::new(alloc, config)?,
         handover: Handover {
             reply: None,
@@ -212,8 +212,8 @@ fn serve_bound<R: Threads + Wait + Clock + Net + RandomSource + Log + Sync, S: S
     let config = &configured.config;
     let listener = listener(rt, config, watch);
     let losses = SharedLosses::new();
-    let old_history = OldHistory::new(alloc, config.top.shards)?;
-    let office = Office::new(rt, alloc, start, config.top.shards, build_of(watch))?;
+    let old_history = OldHistory::new(alloc, config.parts.top.shards)?;
+    let office = Office::new(rt, alloc, start, config.parts.top.shards, build_of(watch))?;
     let stopping = Stopping::new();
     let told = configured.manner.told_exchanges;
     let means = first_means(rt, alloc, config, configured.sockets.as_slice(), told)?;

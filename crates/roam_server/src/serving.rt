@@ -64,7 +64,7 @@ fn serve_once<R: Threads + Wait + Clock + Net + RandomSource + Log + Sync, S: So
     means: Means,
 ) -> Result<Served, ServeFault>
     requires paused { ArePaused (shown configured.now.config) shards.items }
-    requires blanks { count_of blanks ≡ configured.now.config.top.shards }
+    requires blanks { count_of blanks ≡ configured.now.config.parts.top.shards }
     ensures ok { IfOk result (IsServedOn (shown configured.now.config) shards.items) }
     ensures err { IfErr result IsAfterBinding }
 {
@@ -193,7 +193,7 @@ fn serve_changed<R: Threads + Wait + Clock + Net + RandomSource + Log + Sync, S:
     outboxes: Vec<Outbox<Global>>,
 ) -> Result<Served, ServeFault>
     requires paused { ArePaused (shown configured.now.config) shards.items }
-    requires blanks { count_of changed.blanks ≡ configured.now.config.top.shards }
+    requires blanks { count_of changed.blanks ≡ configured.now.config.parts.top.shards }
     ensures ok { IfOk result (IsServedOn (shown configured.now.config) shards.items) }
     ensures err { IfErr result IsAfterBinding }
 {
@@ -236,7 +236,7 @@ pub(crate) fn serve_all<R: Threads + Wait + Clock + Net + RandomSource + Log + S
     ensures err { IfErr result IsAfterBinding }
 {
     let begun = begin(parts, configured)?;
-    let Ok(blanks) = Blanks::new(parts.alloc, configured.config.top.shards) else {
+    let Ok(blanks) = Blanks::new(parts.alloc, configured.config.parts.top.shards) else {
         return Err(ServeFault::Memory);
     };
     let mut served = serve_once(parts, configured, begun, blanks, means)?;

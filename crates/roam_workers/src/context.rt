@@ -100,7 +100,7 @@ impl<H: HubCalls<N>, N: Opened> WorkerContext<'_, '_, H, N> {
             × (self.new.outgoing ≡ self.old.outgoing) }
     {
         self.now = now(rt, self.shared.start, self.now);
-        self.seconds = match self.shared.config.top.fresh {
+        self.seconds = match self.shared.config.parts.top.fresh {
             Some(_) => wall_seconds(rt),
             None => None,
         };
@@ -166,7 +166,7 @@ impl<H: HubCalls<N>, N: Opened> WorkerContext<'_, '_, H, N> {
     {
         let shared = self.shared;
         let until = self.now.saturating_add(milliseconds);
-        for shard in 0..shared.config.top.shards {
+        for shard in 0..shared.config.parts.top.shards {
             match shared.hub.is_due(rt, &mut self.seat, until, shard) {
                 Ok(false) => {}
                 _ => return false,
@@ -190,7 +190,7 @@ impl<H: HubCalls<N>, N: Opened> WorkerContext<'_, '_, H, N> {
         }
         self.outgoing.put_all(answered.answer.outs);
         self.shared.old_history.free_beside(answered.number);
-        if answered.octets > u64::from(self.shared.config.top.trace_octets) {
+        if answered.octets > u64::from(self.shared.config.parts.top.trace_octets) {
             self.let_go(rt, answered.shard);
         }
     }

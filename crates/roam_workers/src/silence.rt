@@ -48,7 +48,13 @@ pub(crate) fn silence_of<R: Wait, H: HubCalls<N>, N: Opened>(
     realm: u16,
     link: Link,
 ) -> Option<Silence> {
-    let servers = shared.config.realms.get(usize::from(realm))?.servers.len();
+    let servers = shared
+        .config
+        .parts
+        .realms
+        .get(usize::from(realm))?
+        .servers
+        .len();
     let place = place_of(servers, link)?;
     let gauges = shared.hub.look(rt, seat, realm)?;
     let rest = gauges.rests.get(place)?;
@@ -118,7 +124,7 @@ pub fn tell_rests<R: Wait, H: HubCalls<N>, N: Opened>(
     }
     rests.next = now.saturating_add(BETWEEN_LOOKS);
     let config = context.shared.config;
-    for (number, realm) in config.realms.iter().enumerate() {
+    for (number, realm) in config.parts.realms.iter().enumerate() {
         tell_realm(rt, context, rests, number as u16, realm);
     }
 }
@@ -129,7 +135,7 @@ pub fn does_any_wait<R: Wait, H: HubCalls<N>, N: Opened>(
     shared: &Shared<'_, '_, H, N>,
     seat: &Seat<Global, N>,
 ) -> bool {
-    for number in 0..shared.config.realms.len() {
+    for number in 0..shared.config.parts.realms.len() {
         match shared.hub.look(rt, seat, number as u16) {
             Some(gauges) if gauges.in_use == 0 => {}
             _ => return true,

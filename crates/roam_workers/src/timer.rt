@@ -114,7 +114,7 @@ fn tick_all<R: Wait, H: HubCalls<N>, N: Opened>(rt: &R, timer: &mut Timer<'_, '_
     ensures { HasWorked N.opening (at_work timer.old.context.seat timer.old.context.counting timer.old.context.outgoing)
         (at_work timer.new.context.seat timer.new.context.counting timer.new.context.outgoing) }
 {
-    for shard in 0..timer.context.shared.config.top.shards {
+    for shard in 0..timer.context.shared.config.parts.top.shards {
         if timer.context.shared.is_over() {
             return;
         }

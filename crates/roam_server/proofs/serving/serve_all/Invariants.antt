@@ -14,5 +14,5 @@ invariant-loop g l = record {
   done : (items : List SavedItem) × HaveServed (opening_with (shown l.initial.configured.config) items)
       (shown l.configured.config) l.served.shards.items;
   may : MayGoOn (shown l.configured.config) l.served.end;
-  count : l.configured.config.top.shards ≡ l.initial.configured.config.top.shards;
+  count : l.configured.config.parts.top.shards ≡ l.initial.configured.config.parts.top.shards;
 }
