@@ -22,7 +22,7 @@ pub fn grace(config: &Config) -> u64
     ensures { result ≤ 30000 }
 {
     let mut longest = 0;
-    for realm in &config.realms {
+    for realm in &config.parts.realms {
         longest = u64::from(realm.wait).max(longest);
     }
     longest.min(LONGEST)

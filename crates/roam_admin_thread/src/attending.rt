@@ -130,7 +130,7 @@ impl<R: Host, H: HubCalls<Global, N>, N: Opened, S: Source> AdminThread<'_, '_, 
 
     /// Lets go of all stored steps, so that they needn't be freed while nobody serves.
     fn let_go_all(&mut self) {
-        for shard in 0..self.epoch.config.top.shards {
+        for shard in 0..self.epoch.config.parts.top.shards {
             if let Ok(steps) = self.epoch.hub.let_go(self.rt, &mut self.seat, shard) {
                 if !steps.is_empty() {
                     self.count_gone(shard, steps.len());

@@ -137,7 +137,7 @@ fn make_threads<R: Net>(
     ensures { IfErr result IsAfterBinding }
 {
     let timer = make_polls(rt, wanted)?;
-    let polls = worker_polls(rt, alloc, configured.config.top.shards, wanted)?;
+    let polls = worker_polls(rt, alloc, configured.config.parts.top.shards, wanted)?;
     let wakers = make_wakers(alloc, &timer, polls.as_slice(), wanted)?;
     let workers = make_workers(alloc, polls, configured, logger)?;
     let timer = make_parts(alloc, timer, configured.manner.told_exchanges, 0, logger)?;
@@ -152,10 +152,10 @@ impl EpochParts {
         configured: &Configured,
         wanted: u32,
     ) -> Result<EpochParts, ServeFault>
-        ensures blanks { IfOk result (λ parts. count_of parts.blanks ≡ configured.now.config.top.shards) }
+        ensures blanks { IfOk result (λ parts. count_of parts.blanks ≡ configured.now.config.parts.top.shards) }
         ensures err { IfErr result IsAfterBinding }
     {
-        let blanks = Blanks::new(alloc, configured.config.top.shards)?;
+        let blanks = Blanks::new(alloc, configured.config.parts.top.shards)?;
         let rests = Rests::new(alloc, &configured.config)?;
         let mut logger = Logger::new(alloc, configured.manner.stations)?;
         let (wakers, timer, workers) = make_threads(rt, alloc, configured, wanted, &mut logger)?;

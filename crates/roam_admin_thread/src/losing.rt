@@ -46,7 +46,7 @@ fn change_of(before: &Realm, next: Option<&Config>, realm: usize) -> &'static st
     let Some(next) = next else {
         return "";
     };
-    match next.realms.get(realm) {
+    match next.parts.realms.get(realm) {
         Some(after) if !after.gone => table_change(before, after),
         _ => ": it is no longer in the file",
     }
@@ -68,7 +68,7 @@ fn push_line(text: &mut Vec<u8>, name: &str, loss: &Loss, change: &str) -> bool 
 /// how one agrees to that, as far as there is memory.
 fn why_not(alloc: Global, config: &Config, next: Option<&Config>, losses: &[Loss]) -> Vec<u8> {
     let mut text = Vec::new(alloc);
-    for (index, (realm, loss)) in config.realms.iter().zip(losses.iter()).enumerate() {
+    for (index, (realm, loss)) in config.parts.realms.iter().zip(losses.iter()).enumerate() {
         if !is_nothing(loss) {
             let change = change_of(realm, next, index);
             let _is_said = push_line(&mut text, realm.name.as_str(), loss, change);
@@ -87,7 +87,7 @@ pub fn declined_for(alloc: Global, config: &Config, losses: &[Loss]) -> AdminRep
 
 /// Tells what went of each realm of a configuration, by their indexes, where another one followed it.
 pub fn tell_what_went<R: Log>(rt: &R, config: &Config, losses: &[Loss]) {
-    for (realm, loss) in config.realms.iter().zip(losses.iter()) {
+    for (realm, loss) in config.parts.realms.iter().zip(losses.iter()) {
         tell_dropped(
             rt,
             DroppedText {
@@ -126,8 +126,8 @@ impl<R: Wait, H: HubCalls<Global, N>, N: Opened, S> AdminThread<'_, '_, '_, R, H
             AreChanged N.opening.config.peers (shown next.now).peers changed.items) }
     {
         let epoch = self.epoch;
-        let before = epoch.config.peers.as_slice();
-        match changed_peers(epoch.alloc, before, next.peers.as_slice()) {
+        let before = epoch.config.parts.peers.as_slice();
+        match changed_peers(epoch.alloc, before, next.parts.peers.as_slice()) {
             Ok(changed) => Ok(changed),
             Err(_) => Err(AllocError),
         }
@@ -137,7 +137,7 @@ impl<R: Wait, H: HubCalls<Global, N>, N: Opened, S> AdminThread<'_, '_, '_, R, H
     fn all_losses(&self, next: &Config) -> Result<Vec<Loss>, AllocError> {
         let changed = self.changed_of(next)?;
         let mut losses = Vec::new(self.epoch.alloc);
-        for realm in 0..self.epoch.config.realms.len() {
+        for realm in 0..self.epoch.config.parts.realms.len() {
             let loss = self.loss_at(realm as u16, next, changed.as_slice());
             losses.push(loss)?;
         }
@@ -163,7 +163,7 @@ impl<R: Wait + Log, H: HubCalls<Global, N>, N: Opened, S> AdminThread<'_, '_, '_
     /// Returns how a realm stands that is here, by its index.
     fn standing_of(&self, index: u16) -> Option<Gauges> {
         let epoch = self.epoch;
-        match epoch.config.realms.get(usize::from(index)) {
+        match epoch.config.parts.realms.get(usize::from(index)) {
             Some(realm) if !realm.gone => epoch.hub.look(self.rt, &self.seat, index),
             _ => None,
         }
@@ -171,7 +171,7 @@ impl<R: Wait + Log, H: HubCalls<Global, N>, N: Opened, S> AdminThread<'_, '_, '_
 
     /// Tells what the realm of an index drops, since the server ends.
     fn tell_end_of(&self, index: u16, waiting: u64, sessions: u64) {
-        if let Some(realm) = self.epoch.config.realms.get(usize::from(index)) {
+        if let Some(realm) = self.epoch.config.parts.realms.get(usize::from(index)) {
             let dropped = DroppedText {
                 cause: DropCause::End,
                 realm: realm.name.as_str(),
@@ -186,7 +186,7 @@ impl<R: Wait + Log, H: HubCalls<Global, N>, N: Opened, S> AdminThread<'_, '_, '_
     /// Tells what all realms drop, since the server ends: the requests that wait, and the sessions where no file is to
     /// keep them.
     pub fn tell_dropped_at_end(&self) {
-        for index in 0..self.epoch.config.realms.len() {
+        for index in 0..self.epoch.config.parts.realms.len() {
             if let Some(gauges) = self.standing_of(index as u16) {
                 let sessions = match self.state {
                     Some(_) => 0,
@@ -199,7 +199,7 @@ impl<R: Wait + Log, H: HubCalls<Global, N>, N: Opened, S> AdminThread<'_, '_, '_
 
     /// Tells of how many sessions of all realms no file has that were to be kept in one at the end.
     pub fn tell_unkept_at_end(&self) {
-        for index in 0..self.epoch.config.realms.len() {
+        for index in 0..self.epoch.config.parts.realms.len() {
             if let Some(gauges) = self.standing_of(index as u16) {
                 self.tell_end_of(index as u16, 0, gauges.sessions as u64);
             }

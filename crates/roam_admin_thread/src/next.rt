@@ -37,7 +37,7 @@ pub struct Next {
     pub is_agreed: bool,
     /// Memory that is given back before the threads start again, for what they are made of then.
     pub spare: Vec<u8>,
-    ghost one_for_each: { count_of parts.blanks ≡ configured.config.top.shards },
+    ghost one_for_each: { count_of parts.blanks ≡ configured.config.parts.top.shards },
 }
 
 /// The spare octets: for each socket, for the stack of each thread, and beside them.
@@ -66,7 +66,7 @@ fn room_for_threads<R: Host>(
     alloc: Global,
     configured: &Configured,
 ) -> Result<Vec<u8>, ServeFault> {
-    let threads = usize::from(configured.config.top.shards) + 2;
+    let threads = usize::from(configured.config.parts.top.shards) + 2;
     let octets = spare_for(threads, configured.sockets.len());
     let room: Vec<u8> = Vec::with_capacity(alloc, octets)?;
     drop(room);

@@ -29,8 +29,8 @@ impl<'p> Overview<'p> {
         now: u64,
     ) -> Result<Overview<'p>, AllocError> {
         let config = epoch.config;
-        let mut gauges = Vec::with_capacity(epoch.alloc, config.realms.len())?;
-        for realm in 0..config.realms.len() {
+        let mut gauges = Vec::with_capacity(epoch.alloc, config.parts.realms.len())?;
+        for realm in 0..config.parts.realms.len() {
             gauges.push(epoch.hub.look(rt, seat, realm as u16))?;
         }
         Ok(Overview {
@@ -51,14 +51,14 @@ impl<'p> Overview<'p> {
 
     /// Returns the place of a server's `auth` among the links of its realm, where it has one.
     fn auth_place(&self, realm: u16, server: u8) -> Option<usize> {
-        let realm = self.config.realms.get(usize::from(realm))?;
+        let realm = self.config.parts.realms.get(usize::from(realm))?;
         let _there = realm.servers.get(usize::from(server))?.auth?;
         Some(usize::from(server))
     }
 
     /// Returns the place of its `acct`, where it has one.
     fn acct_place(&self, realm: u16, server: u8) -> Option<usize> {
-        let realm = self.config.realms.get(usize::from(realm))?;
+        let realm = self.config.parts.realms.get(usize::from(realm))?;
         let _there = realm.servers.get(usize::from(server))?.acct?;
         Some(realm.servers.len().saturating_add(usize::from(server)))
     }

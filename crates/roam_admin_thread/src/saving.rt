@@ -62,10 +62,10 @@ impl<R: Wait, H: HubCalls<Global, N>, N: Opened, S> AdminThread<'_, '_, '_, R, H
     /// Writes the realm of an index and its sessions, where it is here.
     #[tactic(auto, using(crate::proofs::GainLemmas::gains_none))]
     fn write_if_here(&self, index: usize, writing: &mut Writing<Global>) -> Result<(), AllocError>
-        requires { index < vec_len self.now.epoch.now.config.now.realms }
+        requires { index < vec_len self.now.epoch.now.config.now.parts.realms }
         ensures { OnOk result (GainsItems writing.old writing.new) }
     {
-        if self.epoch.config.realms[index].gone {
+        if self.epoch.config.parts.realms[index].gone {
             return Ok(());
         }
         self.write_realm(index as u16, writing)?;
@@ -77,7 +77,7 @@ impl<R: Wait, H: HubCalls<Global, N>, N: Opened, S> AdminThread<'_, '_, '_, R, H
         ensures { IfOk result (λ octets. (items : List SavedItem) × (octets.items ≡ ledgers_text items)) }
     {
         let mut writing = Writing::new(self.epoch.alloc)?;
-        for index in 0..self.epoch.config.realms.len() {
+        for index in 0..self.epoch.config.parts.realms.len() {
             self.write_if_here(index, &mut writing)?;
         }
         let octets = writing.finish()?;

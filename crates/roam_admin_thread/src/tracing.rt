@@ -17,7 +17,7 @@ impl<R: Host, H: HubCalls<Global, N>, N: Opened, S: Source> AdminThread<'_, '_, 
         steps: &[Step<Global>],
     ) -> Result<Vec<u8>, AllocError> {
         let alloc = self.epoch.alloc;
-        let numbering = Numbering::new(alloc, self.order, shard, self.epoch.config.top.shards)?;
+        let numbering = Numbering::new(alloc, self.order, shard, self.epoch.config.parts.top.shards)?;
         script_of(alloc, missing, &numbering, steps)
     }
 

@@ -64,7 +64,7 @@ WantsMemory (admitted job) = Unit {0}
 
 -- a source of a configured realm's reverse requests
 pub record IsHome (config : Config) (realm server : ℕ) : Type 0 where
-  pub configured : realm < vec_len config.realms
+  pub configured : realm < vec_len config.parts.realms
   pub there : server < homes_in (shown_config config) realm
 
 -- what a call answers of an arrival: this admission, and want of memory only where it wants memory.

@@ -33,12 +33,12 @@ fn request<A: Allocator + Copy>(
     secret: &Secret,
 ) -> Result<Prepared<A>, Refusal>
     requires secret { IsSecret secret.now }
-    requires peer { (i : ℕ) → packet.now.side ≡ Side.Peer i → i < vec_len config.now.peers }
+    requires peer { (i : ℕ) → packet.now.side ≡ Side.Peer i → i < vec_len config.now.parts.peers }
     ensures { Prepares result (request_admission (shown config.now) secret.now
         (shown_arrival packet.now.datagram.now) packet.now.side packet.now.view) }
 {
     let view = &packet.view;
-    if !has_few_attributes(view, config.top.max_attributes) {
+    if !has_few_attributes(view, config.parts.top.max_attributes) {
         return Err(Refusal::TooManyAttributes);
     }
     if !is_rightly_signed(view, secret) {
@@ -50,7 +50,7 @@ fn request<A: Allocator + Copy>(
     if !has_needed_seal(view, seal_required(config, packet.side, view)) {
         return Err(Refusal::MissingMessageAuthenticator);
     }
-    if !has_few_hops(view, config.top.max_hops) {
+    if !has_few_hops(view, config.parts.top.max_hops) {
         return Err(Refusal::TooManyHops);
     }
     route_request(config, packet, secret)
@@ -62,7 +62,7 @@ fn admit_packet<A: Allocator + Copy>(
     config: &Config,
     packet: &SentPacket<'_, A>,
 ) -> Result<Prepared<A>, Refusal>
-    requires peer { (i : ℕ) → packet.now.side ≡ Side.Peer i → i < vec_len config.now.peers }
+    requires peer { (i : ℕ) → packet.now.side ≡ Side.Peer i → i < vec_len config.now.parts.peers }
     requires home { (realm nth i : ℕ) → packet.now.datagram.now.at ≡ Place.Reverse realm nth
         → packet.now.side ≡ Side.Home i → IsHome config.now realm i }
     ensures { Prepares result (packet_admission (shown config.now)
@@ -120,14 +120,14 @@ fn status_from<A: Allocator + Copy>(
     config: &Config,
     packet: &SentPacket<'_, A>,
 ) -> Result<Prepared<A>, Refusal>
-    requires peer { (i : ℕ) → packet.now.side ≡ Side.Peer i → i < vec_len config.now.peers }
+    requires peer { (i : ℕ) → packet.now.side ≡ Side.Peer i → i < vec_len config.now.parts.peers }
     ensures { Prepares result (status_from (shown config.now)
         (shown_arrival packet.now.datagram.now) packet.now.side packet.now.view) }
 {
     match packet.side {
         Side::Peer(peer) => {
             let secret = secret_of_peer(config, peer);
-            status(packet, config.top.max_attributes, secret)
+            status(packet, config.parts.top.max_attributes, secret)
         }
         Side::Link(_) | Side::Home(_) => Err(Refusal::WrongCode),
     }
@@ -139,7 +139,7 @@ fn sent<A: Allocator + Copy>(
     config: &Config,
     packet: &SentPacket<'_, A>,
 ) -> Result<Prepared<A>, Refusal>
-    requires peer { (i : ℕ) → packet.now.side ≡ Side.Peer i → i < vec_len config.now.peers }
+    requires peer { (i : ℕ) → packet.now.side ≡ Side.Peer i → i < vec_len config.now.parts.peers }
     requires home { (realm nth i : ℕ) → packet.now.datagram.now.at ≡ Place.Reverse realm nth
         → packet.now.side ≡ Side.Home i → IsHome config.now realm i }
     ensures { Prepares result (sent_admission (shown config.now)

@@ -108,7 +108,7 @@ pub(crate) fn reject_cause(
     }
     match cause_of_asking(config, side, realm) {
         Some(cause) => cause,
-        None if has_too_many_hops(request, config.top.max_hops) => RejectCause::TooManyHops,
+        None if has_too_many_hops(request, config.parts.top.max_hops) => RejectCause::TooManyHops,
         None => RejectCause::Passwords,
     }
 }

@@ -127,7 +127,7 @@ fn is_rejected<A: Allocator>(
 {
     !is_asked(config, packet.side, realm)
         || has_bad_password(&packet.view)
-        || has_too_many_hops(&packet.view, config.top.max_hops)
+        || has_too_many_hops(&packet.view, config.parts.top.max_hops)
 }
 
 /// Returns whether a realm is named that takes the requests of a sender.
@@ -191,7 +191,11 @@ fn reversed<A: Allocator + Copy>(
     ensures { Prepares result (reversed (shown config.now) (shown_arrival packet.now.datagram.now)
         packet.now.side packet.now.view own) }
 {
-    if !is_fresh(config.top.fresh, packet.datagram.seconds, &packet.view) {
+    if !is_fresh(
+        config.parts.top.fresh,
+        packet.datagram.seconds,
+        &packet.view,
+    ) {
         return Err(Refusal::Stale);
     }
     forwarded_for(config, packet, own, realm)
@@ -225,7 +229,7 @@ pub(crate) fn route_request<A: Allocator + Copy>(
             for_named_realm(config, packet, realm)
         };
     }
-    if config.top.answer_unnamed && is_unnamed(view) {
+    if config.parts.top.answer_unnamed && is_unnamed(view) {
         return accounting_answered(packet, secret);
     }
     accounted(config, packet, secret, realm)

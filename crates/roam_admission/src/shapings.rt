@@ -57,7 +57,7 @@ fn shaping_between<'a>(peer: Option<&'a Peer>, realm: Option<&'a Realm>) -> Shap
 fn peer_at(config: &Config, peer: u16) -> Option<&Peer>
     ensures { option_map (λ p. shown_peer p.now) result ≡ slice_get (shown config.now).peers peer }
 {
-    match config.peers.get(usize::from(peer)) {
+    match config.parts.peers.get(usize::from(peer)) {
         Some(peer) => Some(peer),
         None => None,
     }
@@ -67,7 +67,7 @@ fn peer_at(config: &Config, peer: u16) -> Option<&Peer>
 fn realm_at(config: &Config, realm: u16) -> Option<&Realm>
     ensures { option_map (λ r. shown_realm r.now) result ≡ slice_get (shown config.now).realms realm }
 {
-    match config.realms.get(usize::from(realm)) {
+    match config.parts.realms.get(usize::from(realm)) {
         Some(realm) => Some(realm),
         None => None,
     }

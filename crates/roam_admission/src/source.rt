@@ -37,7 +37,7 @@ fn side_of_peer(peer: Option<u16>) -> Option<Side>
 pub(crate) fn sender<A: Allocator>(config: &Config, datagram: &Datagram<A>) -> Option<Side>
     ensures value { result
         ≡ sender (shown config.now) (shown_arrival datagram.now) datagram.now.at }
-    ensures peer { (i : ℕ) → result ≡ Some (Side.Peer i) → i < vec_len config.now.peers }
+    ensures peer { (i : ℕ) → result ≡ Some (Side.Peer i) → i < vec_len config.now.parts.peers }
     ensures home { (realm nth i : ℕ) → datagram.now.at ≡ Place.Reverse realm nth
         → result ≡ Some (Side.Home i) → IsHome config.now realm i }
 {
@@ -57,11 +57,11 @@ pub(crate) fn sender<A: Allocator>(config: &Config, datagram: &Datagram<A>) -> O
 
 /// Returns the secret shared with a peer.
 pub(crate) fn secret_of_peer(config: &Config, peer: u16) -> &Secret
-    requires { peer < vec_len config.now.peers }
+    requires { peer < vec_len config.now.parts.peers }
     ensures text { result.now ≡ peer_secret (shown config.now) peer }
     ensures secret { IsSecret result.now }
 {
-    config.peers[usize::from(peer)].secret()
+    config.parts.peers[usize::from(peer)].secret()
 }
 
 /// Returns the secret shared with a source of a realm's Disconnect- and CoA-Requests: a home server, or a
@@ -71,7 +71,7 @@ pub(crate) fn secret_of_home(config: &Config, realm: u16, server: u8) -> &Secret
     ensures text { result.now ≡ home_secret (shown config.now) realm server }
     ensures secret { IsSecret result.now }
 {
-    config.realms[usize::from(realm)].secret_of_home(server)
+    config.parts.realms[usize::from(realm)].secret_of_home(server)
 }
 
 /// Returns whether a peer is to seal an Access-Request: each, or each that has a Proxy-State, which an attack on an
@@ -84,11 +84,11 @@ fn wants_seal(peer: &Peer, request: &View<'_>) -> bool
 
 /// Returns whether a sender is a peer that is required to seal an Access-Request.
 pub(crate) fn seal_required(config: &Config, side: Side, request: &View<'_>) -> bool
-    requires { (i : ℕ) → side ≡ Side.Peer i → i < vec_len config.now.peers }
+    requires { (i : ℕ) → side ≡ Side.Peer i → i < vec_len config.now.parts.peers }
     ensures { result ≡ seal_required (shown config.now) side request.now }
 {
     match side {
-        Side::Peer(peer) => wants_seal(&config.peers[usize::from(peer)], request),
+        Side::Peer(peer) => wants_seal(&config.parts.peers[usize::from(peer)], request),
         Side::Link(_) | Side::Home(_) => false,
     }
 }
@@ -107,7 +107,7 @@ pub(crate) fn takes_of(config: &Config, realm: u16, side: Side) -> bool
 pub(crate) fn accounting_of(config: &Config, realm: u16) -> Accounting
     ensures { result ≡ accounting_in (shown config.now) realm }
 {
-    match config.realms.get(usize::from(realm)) {
+    match config.parts.realms.get(usize::from(realm)) {
         Some(realm) => realm.accounting,
         None => Accounting::Forwarded,
     }
@@ -158,7 +158,7 @@ pub(crate) fn is_status_request(config: &Config, at: Place, side: Side, code: u8
 {
     match (at, side) {
         (Place::Auth(_) | Place::Acct(_), Side::Peer(_)) => {
-            config.top.status_server && code == STATUS_SERVER
+            config.parts.top.status_server && code == STATUS_SERVER
         }
         _ => false,
     }

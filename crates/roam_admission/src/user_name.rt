@@ -28,7 +28,7 @@ pub fn realm_part(name: &[u8]) -> Option<&[u8]>
 /// memory.
 pub fn realm_of(config: &Config, view: &View<'_>) -> Option<u16>
     ensures value { result ≡ realm_of (shown config.now) view.now.attributes }
-    ensures bound { IfSome result (λ realm. realm < vec_len config.now.realms) }
+    ensures bound { IfSome result (λ realm. realm < vec_len config.now.parts.realms) }
 {
     let name = view.first(USER_NAME)?;
     let part = realm_part(name)?;

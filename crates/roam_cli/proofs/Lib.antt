@@ -1,5 +1,4 @@
 pub mod EscapedLemmas
-pub mod WriteLemmas
 pub mod WordLemmas
 pub mod PrintedLemmas
 pub mod CompareLemmas

@@ -83,7 +83,7 @@ fn print_endpoints<W: Write>(
 fn print_realms<W: Write>(writer: &mut W, old: &Config, new: &Config) -> io::Result<()>
     ensures { OnOk result (IsPrinted (W.contents writer.old) (W.contents writer.new)) }
 {
-    for realm in 0..new.realms.len() {
+    for realm in 0..new.parts.realms.len() {
         print_realm(writer, old, new, realm as u16)?;
     }
     Ok(())
@@ -93,8 +93,18 @@ fn print_realms<W: Write>(writer: &mut W, old: &Config, new: &Config) -> io::Res
 pub fn print_changes<W: Write>(writer: &mut W, old: &Config, new: &Config) -> io::Result<()>
     ensures { OnOk result (IsPrinted (W.contents writer.old) (W.contents writer.new)) }
 {
-    print_endpoints(writer, "auth", old.auth.as_slice(), new.auth.as_slice())?;
-    print_endpoints(writer, "acct", old.acct.as_slice(), new.acct.as_slice())?;
+    print_endpoints(
+        writer,
+        "auth",
+        old.parts.auth.as_slice(),
+        new.parts.auth.as_slice(),
+    )?;
+    print_endpoints(
+        writer,
+        "acct",
+        old.parts.acct.as_slice(),
+        new.parts.acct.as_slice(),
+    )?;
     print_peers(writer, old, new)?;
     print_realms(writer, old, new)
 }

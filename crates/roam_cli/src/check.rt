@@ -25,9 +25,9 @@ fn print_summary<W: Write>(writer: &mut W, config: &Config) -> Result<(), Fault<
         (Appends (W.contents writer.old) (W.contents writer.new) (summary_of (shown config.now))) }
     ensures err { IfErr result (λ fault. fault ≡ Fault.Write) }
 {
-    let realms = config.realms.len();
-    let peers = config.peers.len();
-    let shards = config.top.shards;
+    let realms = config.parts.realms.len();
+    let peers = config.parts.peers.len();
+    let shards = config.parts.top.shards;
     writeln!(writer, "ok realms {realms} peers {peers} shards {shards}").map_err(|_| Fault::Write)?;
     finish(writer)
 }

@@ -105,7 +105,7 @@ fn loser<'c>(old: &Config, new: &'c Config, index: u16, prefix: Prefix) -> Optio
     let first = prefix.network();
     match old.peer_by_ip(first) {
         Some(before) if before != index && new.is_source_of(index, first) => {
-            match new.peers.get(usize::from(before)) {
+            match new.parts.peers.get(usize::from(before)) {
                 Some(peer) if !peer.gone => Some(peer),
                 _ => None,
             }
@@ -162,7 +162,7 @@ fn print_with_losers<W: Write>(
 ) -> io::Result<()>
     ensures { OnOk result (IsPrinted (W.contents writer.old) (W.contents writer.new)) }
 {
-    print_peer_since(writer, old.peers.get(usize::from(index)), peer)?;
+    print_peer_since(writer, old.parts.peers.get(usize::from(index)), peer)?;
     print_losers(writer, old, new, index, peer)
 }
 
@@ -170,7 +170,7 @@ fn print_with_losers<W: Write>(
 pub(crate) fn print_peers<W: Write>(writer: &mut W, old: &Config, new: &Config) -> io::Result<()>
     ensures { OnOk result (IsPrinted (W.contents writer.old) (W.contents writer.new)) }
 {
-    for (index, peer) in new.peers.iter().enumerate() {
+    for (index, peer) in new.parts.peers.iter().enumerate() {
         print_with_losers(writer, old, new, index as u16, peer)?;
     }
     Ok(())

@@ -22,8 +22,8 @@ fn is_other_peer(old: &Peer, new: Option<&Peer>) -> bool {
 /// Returns how many peers of a realm went or have another table.
 fn changed_peers(old: &Config, new: &Config, realm: u16) -> usize {
     let mut count = 0usize;
-    for (index, peer) in old.peers.iter().enumerate() {
-        if old.is_peer_of(realm, index as u16) && is_other_peer(peer, new.peers.get(index)) {
+    for (index, peer) in old.parts.peers.iter().enumerate() {
+        if old.is_peer_of(realm, index as u16) && is_other_peer(peer, new.parts.peers.get(index)) {
             count = count.saturating_add(1);
         }
     }
@@ -253,7 +253,7 @@ fn print_going<W: Write>(
 ) -> io::Result<()>
     ensures { OnOk result (IsPrinted (W.contents writer.old) (W.contents writer.new)) }
 {
-    let Some(before) = old.realms.get(usize::from(realm)) else {
+    let Some(before) = old.parts.realms.get(usize::from(realm)) else {
         return Ok(());
     };
     let peers = changed_peers(old, new, realm);
@@ -270,7 +270,7 @@ pub fn print_realm<W: Write>(
 ) -> io::Result<()>
     ensures { OnOk result (IsPrinted (W.contents writer.old) (W.contents writer.new)) }
 {
-    let Some(after) = new.realms.get(usize::from(realm)) else {
+    let Some(after) = new.parts.realms.get(usize::from(realm)) else {
         return Ok(());
     };
     let name = after.name.as_str();

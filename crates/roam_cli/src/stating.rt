@@ -24,20 +24,20 @@ fn state_seed(text: &mut StatedText, seed: &[u8; 32]) {
 
 /// States what isn't in a table, but for how it is served.
 fn state_top(text: &mut StatedText, config: &Config) {
-    text.put_value(top_table::SHARDS.name, config.top.shards);
-    state_seed(text, &config.top.seed);
-    state_endpoints(text, top_table::AUTH.name, config.auth.as_slice());
-    state_endpoints(text, top_table::ACCT.name, config.acct.as_slice());
-    text.put_value(top_table::TRACE_LIMIT.name, config.top.trace_limit);
-    text.put_value(top_table::TRACE_OCTETS.name, config.top.trace_octets);
-    state_number(text, top_table::MAX_HOPS.name, config.top.max_hops);
+    text.put_value(top_table::SHARDS.name, config.parts.top.shards);
+    state_seed(text, &config.parts.top.seed);
+    state_endpoints(text, top_table::AUTH.name, config.parts.auth.as_slice());
+    state_endpoints(text, top_table::ACCT.name, config.parts.acct.as_slice());
+    text.put_value(top_table::TRACE_LIMIT.name, config.parts.top.trace_limit);
+    text.put_value(top_table::TRACE_OCTETS.name, config.parts.top.trace_octets);
+    state_number(text, top_table::MAX_HOPS.name, config.parts.top.max_hops);
     state_number(
         text,
         top_table::MAX_ATTRIBUTES.name,
-        config.top.max_attributes,
+        config.parts.top.max_attributes,
     );
-    text.put_value(top_table::STATUS_SERVER.name, config.top.status_server);
-    text.put_value(top_table::SPREAD.name, config.top.spread);
+    text.put_value(top_table::STATUS_SERVER.name, config.parts.top.status_server);
+    text.put_value(top_table::SPREAD.name, config.parts.top.spread);
 }
 
 /// States of which exchanges a line tells, and how lines have a station.
@@ -210,14 +210,14 @@ fn state_realm(text: &mut StatedText, realm: &Realm) {
 fn state(text: &mut StatedText, config: &Config, settings: &Settings) {
     state_top(text, config);
     state_settings(text, settings);
-    state_items(text, top_table::REJECT.name, config.reject.as_slice());
-    text.put_value(top_table::WELL_FORMED.name, config.top.well_formed);
-    text.put_value(top_table::ANSWER_UNNAMED.name, config.top.answer_unnamed);
-    state_number(text, top_table::FRESH.name, config.top.fresh);
-    for peer in &config.peers {
+    state_items(text, top_table::REJECT.name, config.parts.reject.as_slice());
+    text.put_value(top_table::WELL_FORMED.name, config.parts.top.well_formed);
+    text.put_value(top_table::ANSWER_UNNAMED.name, config.parts.top.answer_unnamed);
+    state_number(text, top_table::FRESH.name, config.parts.top.fresh);
+    for peer in &config.parts.peers {
         state_peer(text, peer);
     }
-    for realm in &config.realms {
+    for realm in &config.parts.realms {
         state_realm(text, realm);
     }
 }

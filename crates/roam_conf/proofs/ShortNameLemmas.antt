@@ -95,5 +95,6 @@ are_patterns (r ∷ rs) reject all = (realm_patterns r, are_patterns rs reject a
 pub not_found : (config : Config) (p : PatternView) (kind : ℕ) (name : List ℕ) → 253 < length name →
     kind ∷ str_to_ascii_lowercase name ≡ pattern_key p → None ≡ owner_with (shown config) p
 not_found config p kind name long is =
-    let lists = are_patterns config.realms.items (map shown_pattern config.reject.items) config.reject_names in
+    let parts = config.parts in
+    let lists = are_patterns parts.realms.items (map shown_pattern parts.reject.items) parts.reject_names in
     sym (none_among p (omega (arith, long, ap length is, length-map name to_ascii_lowercase)) 0 _ lists)

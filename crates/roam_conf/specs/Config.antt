@@ -80,6 +80,20 @@ pub record RealmView : Type 0 where
   pub rest_after : ℕ
   pub servers : List ServerView
 
+-- the keys at the top of a document that are plain values
+pub record TopView : Type 0 where
+  pub shards : ℕ
+  pub seed : List ℕ
+  pub trace_limit : ℕ
+  pub trace_octets : ℕ
+  pub max_hops : Option ℕ
+  pub max_attributes : Option ℕ
+  pub status_server : Bool
+  pub spread : Bool
+  pub well_formed : Bool
+  pub answer_unnamed : Bool
+  pub fresh : Option ℕ
+
 -- ## Configuration
 -- The operator's values as a record: shards, seed, the broker's endpoints, the limits of a trace in steps and in
 -- octets, the limits of hops and of attributes, whether a Status-Server is answered, whether the workers share `auth`
@@ -90,24 +104,15 @@ pub record RealmView : Type 0 where
 -- Source: ours
 -- Rules out: a realm without servers; an empty secret; two realms of one name; a realm whose requests are
 -- accounted for while no server takes that
--- Stands in: `roam_conf` `Config.antt`: `ConfigView`, `Duplicates.antt`, `Ways.antt`, `Asking.antt`:
+-- Stands in: `roam_conf` `Config.antt`: `ConfigView`, `TopView`, `Duplicates.antt`, `Ways.antt`, `Asking.antt`:
 -- `has_unknown_peer`; the invariants of `Config`, `Peer`, `Realm`, `Server`
 --
--- the whole configuration
+-- the whole configuration: its keys at the top are read as its own, as `config.shards`
 pub record ConfigView : Type 0 where
-  pub shards : ℕ
-  pub seed : List ℕ
+  pub top : TopView
+  pub open top use *
   pub auth : List Endpoint
   pub acct : List Endpoint
-  pub trace_limit : ℕ
-  pub trace_octets : ℕ
-  pub max_hops : Option ℕ
-  pub max_attributes : Option ℕ
-  pub status_server : Bool
-  pub spread : Bool
   pub reject : List PatternView
-  pub well_formed : Bool
-  pub answer_unnamed : Bool
-  pub fresh : Option ℕ
   pub peers : List PeerView
   pub realms : List RealmView

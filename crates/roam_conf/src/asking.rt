@@ -126,7 +126,7 @@ impl Config {
     fn realm_at(&self, realm: u16) -> Option<&Realm>
         ensures { option_map (λ r. shown_realm r.now) result ≡ slice_get (shown self.now).realms realm }
     {
-        match self.realms.get(usize::from(realm)) {
+        match self.parts.realms.get(usize::from(realm)) {
             Some(realm) => Some(realm),
             None => None,
         }
@@ -136,7 +136,7 @@ impl Config {
     fn peer_at(&self, peer: u16) -> Option<&Peer>
         ensures { option_map (λ p. shown_peer p.now) result ≡ slice_get (shown self.now).peers peer }
     {
-        match self.peers.get(usize::from(peer)) {
+        match self.parts.peers.get(usize::from(peer)) {
             Some(peer) => Some(peer),
             None => None,
         }

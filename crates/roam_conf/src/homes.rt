@@ -69,7 +69,7 @@ impl Config {
         ensures value { result ≡ home_in (shown self.now) realm place ip }
         ensures bound { IfSome result (λ home. home < homes_in (shown self.now) realm) }
     {
-        match self.realms.get(usize::from(realm)) {
+        match self.parts.realms.get(usize::from(realm)) {
             Some(realm) => realm.home_of(place, ip),
             None => None,
         }

@@ -187,7 +187,7 @@ impl Config {
     fn may_fit(&self, name: &[u8]) -> bool
         ensures { result ≡ may_fit (shown self.now) name.now }
     {
-        !self.top.well_formed || is_well_formed(name)
+        !self.parts.top.well_formed || is_well_formed(name)
     }
 
     /// Returns whose the nearest pattern is that decides of a name.
@@ -209,9 +209,9 @@ impl Config {
     /// Returns the owner, where it is a realm.
     fn realm_owning(&self, owner: u16) -> Option<u16>
         ensures value { result ≡ realm_owning (shown self.now) owner }
-        ensures bound { IfSome result (λ r. r < vec_len self.now.realms) }
+        ensures bound { IfSome result (λ r. r < vec_len self.now.parts.realms) }
     {
-        if usize::from(owner) < self.realms.len() {
+        if usize::from(owner) < self.parts.realms.len() {
             Some(owner)
         } else {
             None
@@ -224,7 +224,7 @@ impl Config {
     #[tactic(auto, unfolding(crate::specs::Lookup::realm_named))]
     pub fn realm_index(&self, name: &[u8]) -> Option<u16>
         ensures value { result ≡ realm_named (shown self.now) name.now }
-        ensures bound { IfSome result (λ r. r < vec_len self.now.realms) }
+        ensures bound { IfSome result (λ r. r < vec_len self.now.parts.realms) }
     {
         match self.owner_of_name(name) {
             Some(owner) => self.realm_owning(owner),
@@ -235,7 +235,7 @@ impl Config {
     /// Returns the index of the peer that has the longest of all prefixes, of peers that are here, that have the address.
     pub fn peer_by_ip(&self, ip: Address) -> Option<u16>
         ensures value { result ≡ peer_with_ip (shown self.now).peers ip }
-        ensures bound { IfSome result (λ p. p < vec_len self.now.peers) }
+        ensures bound { IfSome result (λ p. p < vec_len self.now.parts.peers) }
     {
         self.found_by.ips.longest(ip)
     }
@@ -254,9 +254,9 @@ impl Config {
     /// is no such `auth`.
     pub fn asker_at_auth(&self, place: u16, ip: Address) -> Option<u16>
         ensures value { result ≡ asker_at (shown self.now).auth (shown self.now).peers place ip }
-        ensures bound { IfSome result (λ p. p < vec_len self.now.peers) }
+        ensures bound { IfSome result (λ p. p < vec_len self.now.parts.peers) }
     {
-        if usize::from(place) >= self.auth.len() {
+        if usize::from(place) >= self.parts.auth.len() {
             return None;
         }
         self.peer_by_ip(ip)
@@ -266,9 +266,9 @@ impl Config {
     /// is no such `acct`.
     pub fn asker_at_acct(&self, place: u16, ip: Address) -> Option<u16>
         ensures value { result ≡ asker_at (shown self.now).acct (shown self.now).peers place ip }
-        ensures bound { IfSome result (λ p. p < vec_len self.now.peers) }
+        ensures bound { IfSome result (λ p. p < vec_len self.now.parts.peers) }
     {
-        if usize::from(place) >= self.acct.len() {
+        if usize::from(place) >= self.parts.acct.len() {
             return None;
         }
         self.peer_by_ip(ip)
@@ -280,17 +280,17 @@ impl Config {
         ensures value { result ≡ link_in (shown self.now) realm out endpoint }
         ensures bound { IfSome result (IsLinkIn (shown self.now) realm) }
     {
-        match self.realms.get(usize::from(realm)) {
-            Some(realm) => realm.link_at(self.peers.as_slice(), out, endpoint),
+        match self.parts.realms.get(usize::from(realm)) {
+            Some(realm) => realm.link_at(self.parts.peers.as_slice(), out, endpoint),
             None => None,
         }
     }
 
     /// Returns the shard that holds a realm: its index modulo the number of shards.
     pub fn shard_of(&self, realm: u16) -> u16
-        ensures value { result ≡ realm % self.now.top.shards }
-        ensures bound { result < self.now.top.shards }
+        ensures value { result ≡ realm % self.now.parts.top.shards }
+        ensures bound { result < self.now.parts.top.shards }
     {
-        realm % self.top.shards
+        realm % self.parts.top.shards
     }
 }

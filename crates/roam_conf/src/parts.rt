@@ -10,8 +10,9 @@ use crate::{Endpoint, Peer, Realm, RealmPattern, TopKeys};
 /// The parts that a configuration is made of: each value is in its range, and something may still stand
 /// twice.
 ///
-/// The fields are those of `Config`.
-#[derive(Drop)]
+/// The fields are the keys of the document; `peers` are its tables `peer`, `realms` its tables
+/// `realm`, in the order of the file.
+#[derive(PartialEq, Eq, Drop)]
 pub struct ConfigParts {
     /// The keys that are plain values.
     pub top: TopKeys,

@@ -51,7 +51,7 @@ impl Config {
     #[tactic(auto, unfolding(crate::specs::Targets::peer_meant))]
     pub fn peer_meant(&self, identifier: &[u8]) -> Option<u16>
         ensures value { result ≡ peer_meant (shown self.now).peers identifier.now }
-        ensures bound { IfSome result (λ p. p < vec_len self.now.peers) }
+        ensures bound { IfSome result (λ p. p < vec_len self.now.parts.peers) }
     {
         match owner_of(&self.found_by.targets.nas.identifiers, identifier) {
             Some(peer) => Some(peer),
@@ -62,7 +62,7 @@ impl Config {
     /// Finds the index of the peer with this NAS-IP-Address. No peer has one that isn't of four octets.
     pub fn peer_by_nas_ip(&self, ip: &[u8]) -> Option<u16>
         ensures value { result ≡ peer_with_nas_ip (shown self.now).peers ip.now }
-        ensures bound { IfSome result (λ p. p < vec_len self.now.peers) }
+        ensures bound { IfSome result (λ p. p < vec_len self.now.parts.peers) }
     {
         owner_of(&self.found_by.targets.nas_ips, ip)
     }
@@ -70,7 +70,7 @@ impl Config {
     /// Finds the index of the peer with this NAS-IPv6-Address. No peer has one that isn't of sixteen octets.
     pub fn peer_by_nas_ipv6(&self, ip: &[u8]) -> Option<u16>
         ensures value { result ≡ peer_with_nas_ipv6 (shown self.now).peers ip.now }
-        ensures bound { IfSome result (λ p. p < vec_len self.now.peers) }
+        ensures bound { IfSome result (λ p. p < vec_len self.now.parts.peers) }
     {
         owner_of(&self.found_by.targets.nas_ipv6s, ip)
     }
@@ -86,7 +86,7 @@ impl Config {
     /// octets.
     pub fn peer_by_operator(&self, value: &[u8]) -> Option<u16>
         ensures value { result ≡ peer_with_operator (shown self.now).peers value.now }
-        ensures bound { IfSome result (λ p. p < vec_len self.now.peers) }
+        ensures bound { IfSome result (λ p. p < vec_len self.now.parts.peers) }
     {
         if value.len() > 253 {
             return None;

@@ -160,21 +160,25 @@ config_unique ms a b p q =
     let fresh = same_value _ a.fresh b.fresh p.fresh q.fresh in
     let peers = tables_unique StatesPeer peer_unique _ a.peers b.peers p.peers q.peers in
     let realms = tables_unique StatesRealm realm_unique _ a.realms b.realms p.realms q.realms in
+    let top : a.top ≡ b.top =
     λ i. record {
       shards = shards i;
       seed = seed i;
-      auth = auth i;
-      acct = acct i;
       trace_limit = trace_limit i;
       trace_octets = trace_octets i;
       max_hops = max_hops i;
       max_attributes = max_attributes i;
       status_server = status_server i;
       spread = spread i;
-      reject = reject i;
       well_formed = well_formed i;
       answer_unnamed = answer_unnamed i;
       fresh = fresh i;
+    } in
+    λ i. record {
+      top = top i;
+      auth = auth i;
+      acct = acct i;
+      reject = reject i;
       peers = peers i;
       realms = realms i;
     }

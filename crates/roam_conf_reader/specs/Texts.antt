@@ -8,6 +8,7 @@ use Rattle.roam_wire.specs.declared.removed_attribute.RemovedAttribute.{RemovedA
 use Rattle.roam_address.specs.declared.endpoint.Endpoint.{Endpoint}
 use Rattle.roam_address.specs.Prefixes.{PrefixView}
 use Rattle.roam_conf.specs.Config.{ServerView, CoaClientView, PeerView, PatternView, whole, suffix, any, RealmView, ConfigView}
+use Rattle.roam_conf.specs.Shown.{shown_top}
 use Rattle.roam_conf_reader.specs.declared.coa_client.ClientText.{ClientText}
 use Rattle.roam_conf_reader.specs.declared.server.ServerText.{ServerText}
 use Rattle.roam_conf_reader.specs.declared.pattern.PatternText.{PatternText}
@@ -120,20 +121,10 @@ StatesBesideLists members text =
 abbrev pub config_in :
     TopText → List Endpoint → List Endpoint → List PatternView → List PeerView → List RealmView → ConfigView
 config_in text auth acct reject peers realms = record {
-  shards = text.top.shards;
-  seed = text.top.seed;
+  top = shown_top text.top;
   auth = auth;
   acct = acct;
-  trace_limit = text.top.trace_limit;
-  trace_octets = text.top.trace_octets;
-  max_hops = text.top.max_hops;
-  max_attributes = text.top.max_attributes;
-  status_server = text.top.status_server;
-  spread = text.top.spread;
   reject = reject;
-  well_formed = text.top.well_formed;
-  answer_unnamed = text.top.answer_unnamed;
-  fresh = text.top.fresh;
   peers = peers;
   realms = realms;
 }

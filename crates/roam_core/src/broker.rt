@@ -87,8 +87,8 @@ impl<'c, A: Allocator + Copy> Broker<'c, A> {
         ensures config { IfOk result (λ b. b.config ≡ shown config.now) }
         ensures states { IfOk result (λ b. b.states ≡ fresh (shown config.now)) }
     {
-        let count = config.realms.len() as u16;
-        let mut books = Vec::with_capacity(alloc, config.realms.len())?;
+        let count = config.parts.realms.len() as u16;
+        let mut books = Vec::with_capacity(alloc, config.parts.realms.len())?;
         for realm in 0..count {
             let start = Start {
                 place: 0,
@@ -235,7 +235,7 @@ impl<'c, A: Allocator + Copy> Broker<'c, A> {
         ensures whole { length self.old.states ≡ length self.old.config.realms }
         ensures shards { 1 ≤ self.old.config.shards }
     {
-        if shard >= self.config.top.shards {
+        if shard >= self.config.parts.top.shards {
             return Ok(refused(self.alloc, Refusal::NoShard));
         }
         if now > LATEST {

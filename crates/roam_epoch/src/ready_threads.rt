@@ -92,7 +92,7 @@ fn equip<'s, 'c, H, N: Opened>(
     ensures { IfErr result IsAfterBinding }
 {
     let numbers = socket_numbers(epoch.config);
-    let workers = usize::from(epoch.config.top.shards);
+    let workers = usize::from(epoch.config.parts.top.shards);
     let ports = ports(epoch.alloc, epoch.sockets, numbers, number, workers)?;
     let counting = counting_of(epoch, number)?;
     let ThreadParts {
@@ -142,7 +142,7 @@ fn make_worker<'s, 'c, H, N: Opened>(
     let receivers = receivers(alloc, epoch.sockets, number)?;
     let events = Events::with_capacity(alloc, receivers.len().saturating_add(2))?;
     let ready = Vec::with_capacity(alloc, receivers.len())?;
-    let shards = usize::from(epoch.config.top.shards);
+    let shards = usize::from(epoch.config.parts.top.shards);
     let jobs = WorkerJobs::new(alloc, number, shards, IN_A_ROUND as usize)?;
     let (context, poll, buffer) = equip(epoch, number, seat, outbox, parts)?;
     Ok(Worker {
@@ -189,7 +189,7 @@ fn make_timer<'s, 'c, H, N: Opened>(
 ) -> Result<Timer<'s, 'c, H, N>, ServeFault>
     ensures { IfErr result IsAfterBinding }
 {
-    let number = usize::from(epoch.config.top.shards);
+    let number = usize::from(epoch.config.parts.top.shards);
     let events = Events::with_capacity(epoch.alloc, 2)?;
     let (context, poll, buffer) = equip(epoch, number, seat, outbox, parts)?;
     drop(buffer);

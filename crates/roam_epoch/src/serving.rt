@@ -41,9 +41,9 @@ fn open_over<'c, N: Opened>(
 >
     requires opening { N.opening ≡ opening_over (shown configured.now.config) carry.shards.items }
     requires books { N.books ≡ books_of blanks }
-    requires blanks { count_of blanks ≡ configured.now.config.top.shards }
+    requires blanks { count_of blanks ≡ configured.now.config.parts.top.shards }
     requires paused { ArePaused (shown configured.now.config) carry.shards.items }
-    ensures queues { IfOk result (λ opened. length opened.3.queues.items ≡ configured.now.config.top.shards) }
+    ensures queues { IfOk result (λ opened. length opened.3.queues.items ≡ configured.now.config.parts.top.shards) }
     ensures err { IfErr result (λ back. back.shards.items ≡ carry.shards.items) }
 {
     let config = &configured.config;
@@ -51,7 +51,7 @@ fn open_over<'c, N: Opened>(
         drop(blanks);
         return Err(carry);
     };
-    match EpochRoom::<N>::new(alloc, config.top.shards, carry) {
+    match EpochRoom::<N>::new(alloc, config.parts.top.shards, carry) {
         Ok(room) => {
             let mut room = room;
             let shards = mem::replace(&mut room.carry.shards, Vec::new(alloc));
@@ -143,7 +143,7 @@ pub fn serve_epoch<N: Opened + Send + Sync, R: Host, S: Source>(
 ) -> Result<(EpochEnd, Carryover), ServeFault>
     requires opening { N.opening ≡ opening_over (shown configured.now.config) carry.shards.items }
     requires books { N.books ≡ books_of parts.blanks }
-    requires blanks { count_of parts.blanks ≡ configured.now.config.top.shards }
+    requires blanks { count_of parts.blanks ≡ configured.now.config.parts.top.shards }
     requires paused { ArePaused (shown configured.now.config) carry.shards.items }
     ensures ends { IfOk result (λ served. HasEnded N.opening carry.shards.items served.0 served.1.shards.items) }
     ensures may { IfOk result (λ served. MayGoOn N.opening.config served.0) }

@@ -28,20 +28,22 @@ fresh_opening config starts = record { config = config; states = λ shard. openi
 abbrev pub no_opening : HubOpening
 no_opening = record {
   config = record {
-    shards = 0;
-    seed = [];
+    top = record {
+      shards = 0;
+      seed = [];
+      trace_limit = 0;
+      trace_octets = 0;
+      max_hops = None;
+      max_attributes = None;
+      status_server = false;
+      spread = false;
+      well_formed = false;
+      answer_unnamed = false;
+      fresh = None;
+    };
     auth = [];
     acct = [];
-    trace_limit = 0;
-    trace_octets = 0;
-    max_hops = None;
-    max_attributes = None;
-    status_server = false;
-    spread = false;
     reject = [];
-    well_formed = false;
-    answer_unnamed = false;
-    fresh = None;
     peers = [];
     realms = [];
   };

@@ -70,13 +70,13 @@ pub(crate) fn starts_of<'c, A: Allocator + Copy, N: Opened>(
     mut starts: Vec<Start, A>,
 ) -> Vec<Start, A>
     requires config { shown config.now ≡ N.opening.config }
-    requires closed { AreClosed N.opening config.now.top.shards closed.now.shards.items
+    requires closed { AreClosed N.opening config.now.parts.top.shards closed.now.shards.items
         (all_steps closed.now.fronts.items) }
-    requires room { HasRoom (vec_len config.now.realms) starts }
+    requires room { HasRoom (vec_len config.now.parts.realms) starts }
     ensures starts { result.items ≡ starts_at_end N.opening (all_steps closed.now.fronts.items) }
     ensures good { AreStarts N.opening.config result.items }
 {
-    for realm in 0..config.realms.len() {
+    for realm in 0..config.parts.realms.len() {
         let index = realm as u16;
         let shard = config.shard_of(index);
         starts.push_reserved(closed.shards[usize::from(shard)].start(index));

@@ -27,7 +27,7 @@ fn kept_at<'c, A: Allocator + Copy, N: Opened>(
     blank: Blank,
 ) -> Result<(LockedTrace<'c, A, N>, Front<N>), NoMemory>
     requires opening { N.opening ≡ fresh_opening (shown config.now) starts.now }
-    requires shard { shard < config.now.top.shards }
+    requires shard { shard < config.now.parts.top.shards }
     requires starts { AreStarts (shown config.now) starts.now }
     requires book { blank.seen.book ≡ N.books shard }
     ensures seen { IfOk result (λ r. r.1 ≡ record { shard = shard; entries = [] }) }
@@ -36,7 +36,7 @@ fn kept_at<'c, A: Allocator + Copy, N: Opened>(
     let (head, front) = blank.named::<N>(shard);
     let seen = front.again();
     let shard = Shard::new(alloc, config, shard, starts)?;
-    let traced = Traced::new(alloc, shard, config.top.trace_limit as usize);
+    let traced = Traced::new(alloc, shard, config.parts.top.trace_limit as usize);
     Ok((LockedTrace::new(traced, front, head), seen))
 }
 
@@ -52,12 +52,12 @@ impl<'c, A: Allocator + Copy, N: Opened> Hub<'c, A, N> {
     ) -> Result<(Hub<'c, A, N>, Seat<A, N>), NoMemory>
         requires opening { N.opening ≡ fresh_opening (shown config.now) starts.now }
         requires books { N.books ≡ books_of blanks }
-        requires blanks { count_of blanks ≡ config.now.top.shards }
+        requires blanks { count_of blanks ≡ config.now.parts.top.shards }
         requires starts { AreStarts (shown config.now) starts.now }
-        ensures seat { IfOk result (λ r. r.1 ≡ new_seat config.now.top.shards) }
+        ensures seat { IfOk result (λ r. r.1 ≡ new_seat config.now.parts.top.shards) }
     {
-        let mut locks = Vec::with_capacity(alloc, usize::from(config.top.shards))?;
-        let mut fronts = Vec::with_capacity(alloc, usize::from(config.top.shards))?;
+        let mut locks = Vec::with_capacity(alloc, usize::from(config.parts.top.shards))?;
+        let mut fronts = Vec::with_capacity(alloc, usize::from(config.parts.top.shards))?;
         let mut shard: u16 = 0;
         for blank in blanks.blanks {
             let (kept, front) = kept_at(alloc, config, shard, starts, blank)?;

@@ -33,12 +33,12 @@ impl<'c, A: Allocator + Copy, N: Opened> PauseRoom<'c, A, N> {
     pub fn new(alloc: A, config: &'c Config) -> Result<PauseRoom<'c, A, N>, NoMemory>
         requires { shown config.now ≡ N.opening.config }
     {
-        let count = usize::from(config.top.shards);
+        let count = usize::from(config.parts.top.shards);
         Ok(PauseRoom {
             shards: Vec::with_capacity(alloc, count)?,
             steps: Vec::with_capacity(alloc, count)?,
             fronts: Vec::with_capacity(alloc, count)?,
-            starts: Vec::with_capacity(alloc, config.realms.len())?,
+            starts: Vec::with_capacity(alloc, config.parts.realms.len())?,
             paused: Vec::with_capacity(alloc, count)?,
         })
     }

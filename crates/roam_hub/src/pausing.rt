@@ -62,7 +62,7 @@ fn kept_over<'c, A: Allocator + Copy, N: Opened>(
     let (head, front) = blank.named::<N>(shard);
     let seen = front.again();
     let shard = Shard::resume(config, paused);
-    let traced = Traced::new(alloc, shard, config.top.trace_limit as usize);
+    let traced = Traced::new(alloc, shard, config.parts.top.trace_limit as usize);
     (LockedTrace::new(traced, front, head), seen)
 }
 
@@ -128,12 +128,12 @@ impl<'c, A: Allocator + Copy, N: Opened> Hub<'c, A, N> {
     ) -> Result<(Hub<'c, A, N>, Seat<A, N>), Vec<Paused<A>, A>>
         requires opening { N.opening ≡ opening_over (shown config.now) shards.items }
         requires books { N.books ≡ books_of blanks }
-        requires blanks { count_of blanks ≡ config.now.top.shards }
+        requires blanks { count_of blanks ≡ config.now.parts.top.shards }
         requires paused { ArePaused (shown config.now) shards.items }
-        ensures seat { IfOk result (λ r. r.1 ≡ new_seat config.now.top.shards) }
+        ensures seat { IfOk result (λ r. r.1 ≡ new_seat config.now.parts.top.shards) }
         ensures err { IfErr result (λ back. back.items ≡ shards.items) }
     {
-        let count = usize::from(config.top.shards);
+        let count = usize::from(config.parts.top.shards);
         let Ok(mut locks) = Vec::with_capacity(alloc, count) else {
             return Err(shards);
         };

@@ -18,7 +18,7 @@ use std::alloc::Allocator;
 pub fn server_endpoint(config: &Config, realm: u16, link: Link) -> Option<Endpoint>
     ensures { result ≡ spec.server_at (shown config.now).realms realm link }
 {
-    let realm = config.realms.get(usize::from(realm))?;
+    let realm = config.parts.realms.get(usize::from(realm))?;
     match link {
         Link::Auth(server, _) => realm.servers.get(usize::from(server))?.auth,
         Link::Acct(server, _) => realm.servers.get(usize::from(server))?.acct,
@@ -30,7 +30,7 @@ pub fn server_endpoint(config: &Config, realm: u16, link: Link) -> Option<Endpoi
 fn tries_of(config: &Config, realm: u16, sends_left: u8) -> u8
     ensures { result ≡ spec.tries_of (shown config.now).realms realm sends_left }
 {
-    match config.realms.get(usize::from(realm)) {
+    match config.parts.realms.get(usize::from(realm)) {
         Some(realm) => realm.tries.saturating_sub(sends_left),
         None => 0,
     }

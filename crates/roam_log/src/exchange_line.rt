@@ -145,7 +145,7 @@ fn asked_word(asked: RequestWord) -> &'static str
 fn realm_name(config: &Config, realm: Option<u16>) -> Option<&[u8]>
     ensures { shown_value result ≡ spec.realm_name (shown config.now).realms realm }
 {
-    match config.realms.get(usize::from(realm?)) {
+    match config.parts.realms.get(usize::from(realm?)) {
         Some(realm) => Some(realm.name.as_str().as_bytes()),
         None => None,
     }
@@ -155,7 +155,7 @@ fn realm_name(config: &Config, realm: Option<u16>) -> Option<&[u8]>
 fn peer_name(config: &Config, peer: Option<u16>) -> Option<&[u8]>
     ensures { shown_value result ≡ spec.peer_name (shown config.now).peers peer }
 {
-    match config.peers.get(usize::from(peer?)) {
+    match config.parts.peers.get(usize::from(peer?)) {
         Some(peer) => Some(peer.name.as_str().as_bytes()),
         None => None,
     }

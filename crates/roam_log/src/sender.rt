@@ -24,7 +24,7 @@ fn peer_at(config: &Config, peer: Option<u16>) -> Sender<'_>
     let Some(peer) = peer else {
         return Sender::Unknown;
     };
-    match config.peers.get(usize::from(peer)) {
+    match config.parts.peers.get(usize::from(peer)) {
         Some(peer) => Sender::Peer(peer.name.as_str()),
         None => Sender::Unknown,
     }

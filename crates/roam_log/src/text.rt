@@ -61,7 +61,7 @@ pub(crate) fn name_of(config: &Config, realm: Option<u16>) -> &str
     let Some(number) = realm else {
         return "";
     };
-    match config.realms.get(usize::from(number)) {
+    match config.parts.realms.get(usize::from(number)) {
         Some(realm) => realm.name.as_str(),
         None => "",
     }

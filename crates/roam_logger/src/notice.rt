@@ -90,7 +90,7 @@ const NOWHERE: Endpoint = Endpoint {
 
 /// Returns the endpoint of a link of a realm, and the realm's name.
 fn link_text(config: &Config, number: u16, link: Link) -> LinkText<'_> {
-    match config.realms.get(usize::from(number)) {
+    match config.parts.realms.get(usize::from(number)) {
         Some(realm) => LinkText {
             at: server_endpoint(config, number, link).unwrap_or(NOWHERE),
             realm: realm.name.as_str(),
@@ -201,7 +201,12 @@ pub fn notices_in(notice: Notice) -> u64
 
 /// Returns the notice of what is served: of how many realms and peers that are here.
 pub fn serving(config: &Config) -> Notice {
-    let realms = config.realms.iter().filter(|realm| !realm.gone).count();
-    let peers = config.peers.iter().filter(|peer| !peer.gone).count();
-    Notice::Serving(realms, peers, config.top.shards)
+    let realms = config
+        .parts
+        .realms
+        .iter()
+        .filter(|realm| !realm.gone)
+        .count();
+    let peers = config.parts.peers.iter().filter(|peer| !peer.gone).count();
+    Notice::Serving(realms, peers, config.parts.top.shards)
 }

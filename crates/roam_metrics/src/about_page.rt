@@ -123,7 +123,7 @@ fn push_limit(page: &mut Vec<u8>, config: &Config, limit: Limit) -> Result<(), A
     ensures { OnOk result (MoreLines page.old.items page.new.items) }
 {
     push_header(page, limit.name(), limit.help(), MetricKind::Gauge)?;
-    for realm in &config.realms {
+    for realm in &config.parts.realms {
         if realm.gone {
             continue;
         }

@@ -22,7 +22,7 @@ pub(crate) struct Named<'c> {
 /// behind it, and peers.
 pub(crate) fn all_named(alloc: Global, config: &Config) -> Result<Vec<Named<'_>>, AllocError> {
     let mut all = Vec::new(alloc);
-    for (number, realm) in config.realms.iter().enumerate() {
+    for (number, realm) in config.parts.realms.iter().enumerate() {
         if realm.gone {
             continue;
         }
@@ -47,7 +47,7 @@ pub(crate) fn all_named(alloc: Global, config: &Config) -> Result<Vec<Named<'_>>
             })?;
         }
     }
-    for (number, peer) in config.peers.iter().enumerate() {
+    for (number, peer) in config.parts.peers.iter().enumerate() {
         if peer.gone {
             continue;
         }

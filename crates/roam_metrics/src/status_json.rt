@@ -124,7 +124,7 @@ fn write_realms<C: Counts>(
     config: &Config,
 ) -> Result<(), AllocError> {
     let mut before = 0;
-    for (at, realm) in config.realms.iter().enumerate() {
+    for (at, realm) in config.parts.realms.iter().enumerate() {
         if realm.gone {
             continue;
         }
@@ -152,7 +152,7 @@ fn write_realms<C: Counts>(
 /// Adds the peers.
 fn write_peers<C: Counts>(out: &mut String, counts: &C, config: &Config) -> Result<(), AllocError> {
     let mut before = 0;
-    for (at, peer) in config.peers.iter().enumerate() {
+    for (at, peer) in config.parts.peers.iter().enumerate() {
         if peer.gone {
             continue;
         }
@@ -196,7 +196,7 @@ fn write_reloads(
 fn write_head(out: &mut String, config: &Config, about: &About) -> Result<(), AllocError> {
     let version = about.version;
     let seconds = about.uptime / 1000;
-    let shards = config.top.shards;
+    let shards = config.parts.top.shards;
     write!(out, "{{\"version\":\"{version}\",\"seconds\":{seconds}")?;
     write_second(out, "began", about.began)?;
     out.push_str(",\"reloads\":{")?;

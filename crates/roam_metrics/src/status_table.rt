@@ -128,7 +128,7 @@ fn write_realms<C: Counts>(
     counts: &C,
 ) -> Result<(), AllocError> {
     let mut table = Filling::new(alloc, &OF_REALMS)?;
-    for (at, realm) in config.realms.iter().enumerate() {
+    for (at, realm) in config.parts.realms.iter().enumerate() {
         if realm.gone {
             continue;
         }
@@ -179,7 +179,7 @@ fn write_servers<C: Counts>(
     counts: &C,
 ) -> Result<(), AllocError> {
     let mut table = Filling::new(alloc, &OF_SERVERS)?;
-    for (at, realm) in config.realms.iter().enumerate() {
+    for (at, realm) in config.parts.realms.iter().enumerate() {
         let number = u16::try_from(at).unwrap_or(u16::MAX);
         for (at, server) in realm.servers.iter().enumerate() {
             let of = (number, u8::try_from(at).unwrap_or(u8::MAX));
@@ -204,7 +204,7 @@ fn write_peers<C: Counts>(
     counts: &C,
 ) -> Result<(), AllocError> {
     let mut table = Filling::new(alloc, &OF_PEERS)?;
-    for (at, peer) in config.peers.iter().enumerate() {
+    for (at, peer) in config.parts.peers.iter().enumerate() {
         if peer.gone {
             continue;
         }
@@ -267,9 +267,14 @@ fn write_head(
     if let Some(Ok(date)) = about.began.map(HttpDate::from_unix_secs) {
         write_text(alloc, out, format_args!(", since {date}"))?;
     }
-    let realms = config.realms.iter().filter(|realm| !realm.gone).count();
-    let peers = config.peers.iter().filter(|peer| !peer.gone).count();
-    let shards = config.top.shards;
+    let realms = config
+        .parts
+        .realms
+        .iter()
+        .filter(|realm| !realm.gone)
+        .count();
+    let peers = config.parts.peers.iter().filter(|peer| !peer.gone).count();
+    let shards = config.parts.top.shards;
     let line = format_args!("\nrealms {realms} peers {peers} shards {shards}; reloads: ");
     write_text(alloc, out, line)?;
     write_reloads(alloc, out, about, about.served, "served")?;

@@ -46,12 +46,12 @@ impl Counters {
         config: &Config,
     ) -> Result<Counters, AllocError> {
         let mut threads = Vec::new(alloc);
-        for _ in 0..config.top.shards + 1 {
+        for _ in 0..config.parts.top.shards + 1 {
             threads.push(Sheet::new(alloc, before, config)?)?;
         }
         Ok(Counters {
             threads,
-            history: zeros(alloc, usize::from(config.top.shards))?,
+            history: zeros(alloc, usize::from(config.parts.top.shards))?,
         })
     }
 
@@ -96,8 +96,8 @@ impl Counters {
         for (sheet, other) in self.threads.iter_mut().zip(others.threads.iter_mut()) {
             sheet.take_over(other, after);
         }
-        for (number, realm) in after.realms.iter().enumerate() {
-            if let Some(old) = before.realms.get(number) {
+        for (number, realm) in after.parts.realms.iter().enumerate() {
+            if let Some(old) = before.parts.realms.get(number) {
                 self.add_if_changed(others, number as u16, old, realm);
             }
         }

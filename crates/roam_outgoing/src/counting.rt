@@ -42,7 +42,7 @@ impl<'s> Drop for Counting<'s> {
 fn wait_of(config: &Config, realm: u16) -> u32
     ensures { result ≡ spec.wait_of (shown config.now) realm }
 {
-    match config.realms.get(usize::from(realm)) {
+    match config.parts.realms.get(usize::from(realm)) {
         Some(realm) => realm.wait,
         None => 0,
     }

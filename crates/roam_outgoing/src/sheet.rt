@@ -46,7 +46,7 @@ fn goes_on(before: &Realm, after: &Realm) -> bool {
 /// Returns how many counts are made for the realm of an index: none where its list goes on, or where it is gone.
 fn realm_cells(before: Option<&Config>, after: &Realm, number: usize) -> usize {
     let old = match before {
-        Some(before) => before.realms.get(number),
+        Some(before) => before.parts.realms.get(number),
         None => None,
     };
     match old {
@@ -59,7 +59,7 @@ fn realm_cells(before: Option<&Config>, after: &Realm, number: usize) -> usize {
 /// Returns how many counts are made for the peer of an index: none where its list goes on, or where it is gone.
 fn peer_cells(before: Option<&Config>, is_gone: bool, number: usize) -> usize {
     let old = match before {
-        Some(before) => before.peers.get(number),
+        Some(before) => before.parts.peers.get(number),
         None => None,
     };
     match old {
@@ -74,8 +74,8 @@ fn realm_lists(
     before: Option<&Config>,
     after: &Config,
 ) -> Result<Vec<Vec<AtomicU64>>, AllocError> {
-    let mut lists = Vec::with_capacity(alloc, after.realms.len())?;
-    for (number, realm) in after.realms.iter().enumerate() {
+    let mut lists = Vec::with_capacity(alloc, after.parts.realms.len())?;
+    for (number, realm) in after.parts.realms.iter().enumerate() {
         lists.push(zeros(alloc, realm_cells(before, realm, number))?)?;
     }
     Ok(lists)
@@ -86,8 +86,8 @@ fn peer_lists(
     before: Option<&Config>,
     after: &Config,
 ) -> Result<Vec<Vec<AtomicU64>>, AllocError> {
-    let mut lists = Vec::with_capacity(alloc, after.peers.len())?;
-    for (number, peer) in after.peers.iter().enumerate() {
+    let mut lists = Vec::with_capacity(alloc, after.parts.peers.len())?;
+    for (number, peer) in after.parts.peers.iter().enumerate() {
         lists.push(zeros(alloc, peer_cells(before, peer.gone, number))?)?;
     }
     Ok(lists)
@@ -151,7 +151,7 @@ impl Sheet {
     /// Takes the lists of each realm that go on. Takes no memory.
     fn take_realms(&mut self, others: &mut Sheet, after: &Config) {
         let lists = self.realms.iter_mut().zip(others.realms.iter_mut());
-        for ((list, other), realm) in lists.zip(after.realms.iter()) {
+        for ((list, other), realm) in lists.zip(after.parts.realms.iter()) {
             take_list(list, other, realm.gone);
         }
     }
@@ -159,7 +159,7 @@ impl Sheet {
     /// Takes the lists of each peer that go on. Takes no memory.
     fn take_peers(&mut self, others: &mut Sheet, after: &Config) {
         let lists = self.peers.iter_mut().zip(others.peers.iter_mut());
-        for ((list, other), peer) in lists.zip(after.peers.iter()) {
+        for ((list, other), peer) in lists.zip(after.parts.peers.iter()) {
             take_list(list, other, peer.gone);
         }
     }

@@ -63,7 +63,7 @@ pub fn socket_numbers(config: &Config) -> usize
     ensures value { result ≡ 2 * length (shown config.now).realms + 2 }
     ensures bound { result ≤ 2050 }
 {
-    2 * config.realms.len() + 2
+    2 * config.parts.realms.len() + 2
 }
 
 /// Returns how many sockets a realm has.
@@ -95,7 +95,9 @@ pub fn socket_count(config: &Config) -> usize
     ensures value { result ≡ length (socket_endpoints (shown config.now)) }
     ensures bound { result ≤ 24592 }
 {
-    config.auth.len() + config.acct.len() + sockets_of_all(config.realms.as_slice())
+    config.parts.auth.len()
+        + config.parts.acct.len()
+        + sockets_of_all(config.parts.realms.as_slice())
 }
 
 /// Returns the endpoint of a place in a list, if there is one.
@@ -132,13 +134,13 @@ pub fn endpoint_of(config: &Config, place: Place) -> Option<Endpoint>
     ensures { result ≡ socket_endpoint (shown config.now) place }
 {
     match place {
-        Place::Auth(nth) => endpoint_at(config.auth.as_slice(), nth),
-        Place::Acct(nth) => endpoint_at(config.acct.as_slice(), nth),
-        Place::Out(realm, nth) => match config.realms.get(usize::from(realm)) {
+        Place::Auth(nth) => endpoint_at(config.parts.auth.as_slice(), nth),
+        Place::Acct(nth) => endpoint_at(config.parts.acct.as_slice(), nth),
+        Place::Out(realm, nth) => match config.parts.realms.get(usize::from(realm)) {
             Some(realm) => own_out(realm, nth),
             None => None,
         },
-        Place::Reverse(realm, nth) => match config.realms.get(usize::from(realm)) {
+        Place::Reverse(realm, nth) => match config.parts.realms.get(usize::from(realm)) {
             Some(realm) => own_reverse(realm, nth),
             None => None,
         },

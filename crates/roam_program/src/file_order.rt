@@ -6,8 +6,8 @@ use std::alloc::{AllocError, Global};
 
 /// Returns the names of a configuration's realms, in their order.
 pub(crate) fn names_of(alloc: Global, config: &Config) -> Result<Vec<String>, AllocError> {
-    let mut names = Vec::with_capacity(alloc, config.realms.len())?;
-    for realm in &config.realms {
+    let mut names = Vec::with_capacity(alloc, config.parts.realms.len())?;
+    for realm in &config.parts.realms {
         names.push(String::from_str(alloc, realm.name.as_str())?)?;
     }
     Ok(names)
@@ -32,8 +32,8 @@ pub(crate) fn order_of(
     names: &[String],
     config: &Config,
 ) -> Result<FileOrder, AllocError> {
-    let mut places = Vec::with_capacity(alloc, config.realms.len())?;
-    for realm in &config.realms {
+    let mut places = Vec::with_capacity(alloc, config.parts.realms.len())?;
+    for realm in &config.parts.realms {
         places.push(place_of(names, realm))?;
     }
     Ok(FileOrder { places })

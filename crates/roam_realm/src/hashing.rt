@@ -16,5 +16,5 @@ pub const HASH_STREAM: u64 = 1 << 32;
 pub fn hash_key(config: &Config) -> HashKey
     ensures { result ≡ keyed (request_authenticator_at (shown config.now).seed HASH_STREAM 0) }
 {
-    HashKey::new(request_authenticator(config.top.seed, HASH_STREAM, 0))
+    HashKey::new(request_authenticator(config.parts.top.seed, HASH_STREAM, 0))
 }

@@ -169,6 +169,7 @@ impl<A: Allocator + Copy> RealmNumbers<A> {
         }
         None
     }
+
     /// Returns the one of the links to the servers of an order that is chosen at a moment: of those that have a free
     /// Identifier, or are `freed`, the first that doesn't stand back; where all of these stand back, the first of them.
     pub fn chosen(

@@ -37,13 +37,13 @@ impl<'c> Model for RealmSettings<'c> {
 
     ghost view = { λ s. realm_config (shown s.config.now) s.realm };
 
-    ghost invariant = { λ s. s.realm < vec_len s.config.now.realms };
+    ghost invariant = { λ s. s.realm < vec_len s.config.now.parts.realms };
 }
 
 impl<'c> RealmSettings<'c> {
     /// Makes the settings of the realm of this index, which is configured.
     pub fn new(config: &'c Config, realm: u16) -> RealmSettings<'c>
-        requires { realm < vec_len config.now.realms }
+        requires { realm < vec_len config.now.parts.realms }
         ensures { result ≡ realm_config (shown config.now) realm }
     {
         RealmSettings { config, realm }
@@ -60,7 +60,7 @@ impl<'c> RealmSettings<'c> {
     pub fn realm(&self) -> &Realm
         ensures { shown_realm result.now ≡ self.now.realm }
     {
-        &self.config.realms[usize::from(self.realm)]
+        &self.config.parts.realms[usize::from(self.realm)]
     }
 
     /// Returns whether a source at an address is this peer's.
@@ -74,7 +74,7 @@ impl<'c> RealmSettings<'c> {
     pub fn seed(&self) -> [u8; 32]
         ensures { result ≡ self.now.seed }
     {
-        self.config.top.seed
+        self.config.parts.top.seed
     }
 
     /// Returns how often a packet is sent to one server.
@@ -187,7 +187,7 @@ impl<'c> RealmSettings<'c> {
         ensures count { result ≡ length self.now.peers }
         ensures few { result ≤ 1024 }
     {
-        self.config.peers.len()
+        self.config.parts.peers.len()
     }
 
     /// Returns all peers.
@@ -195,7 +195,7 @@ impl<'c> RealmSettings<'c> {
         ensures peers { map shown_peer result.now ≡ self.now.peers }
         ensures few { length result.now ≤ 1024 }
     {
-        self.config.peers.as_slice()
+        self.config.parts.peers.as_slice()
     }
 
     /// Returns the home server of a place.
@@ -214,7 +214,7 @@ impl<'c> RealmSettings<'c> {
         ensures secret { peer_secret self.now peer ≡ (shown_peer result.now).secret }
         ensures peer { slice_get self.now.peers peer ≡ Some (shown_peer result.now) }
     {
-        &self.config.peers[usize::from(peer)]
+        &self.config.parts.peers[usize::from(peer)]
     }
 
     /// Returns the secret shared with a link of the realm, of 1 to 64 octets.

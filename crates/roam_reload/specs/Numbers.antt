@@ -61,7 +61,7 @@ laid_by same gone old new =
 --
 abbrev pub laid_out : ConfigView → ConfigView → ConfigView
 laid_out old new = record new {
-  seed = old.seed;
+  top = record new.top { seed = old.seed };
   peers = laid_by same_peer_name gone_peer old.peers new.peers;
   realms = laid_by same_realm_name gone_realm old.realms new.realms;
 }

@@ -29,7 +29,7 @@ pub enum AfterReload {
 pub fn is_here(config: &Config, realm: u16) -> bool
     ensures { result ≡ is_here (shown config.now) realm }
 {
-    match config.realms.get(usize::from(realm)) {
+    match config.parts.realms.get(usize::from(realm)) {
         Some(realm) => !realm.gone,
         None => false,
     }
@@ -49,14 +49,14 @@ pub fn is_untouched(old: &Config, new: &Config, realm: u16) -> bool
     if !is_carried(old, new, realm) {
         return false;
     }
-    let Some(before) = old.realms.get(usize::from(realm)) else {
+    let Some(before) = old.parts.realms.get(usize::from(realm)) else {
         return false;
     };
-    let Some(after) = new.realms.get(usize::from(realm)) else {
+    let Some(after) = new.parts.realms.get(usize::from(realm)) else {
         return false;
     };
     realm_difference(before, after).is_none()
-        && other_peer(old.peers.as_slice(), new.peers.as_slice()).is_none()
+        && other_peer(old.parts.peers.as_slice(), new.parts.peers.as_slice()).is_none()
 }
 
 /// Returns what becomes of the realm of an index when `new` follows `old`.

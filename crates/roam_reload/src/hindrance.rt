@@ -43,7 +43,7 @@ fn moved_of(endpoints: &[Endpoint], kind: PlaceKind, new: &Config) -> Option<End
 fn keeps_out(old: &Realm, nth: usize, new: &Config) -> bool
     ensures { IsTrue result → find (is_moved (shown new.now) kind.Out) old.now.out.items ≡ None }
 {
-    match new.realms.get(nth) {
+    match new.parts.realms.get(nth) {
         Some(realm) => !realm.gone && realm.out == old.out,
         None => false,
     }
@@ -53,7 +53,7 @@ fn keeps_out(old: &Realm, nth: usize, new: &Config) -> bool
 fn keeps_reverse(old: &Realm, nth: usize, new: &Config) -> bool
     ensures { IsTrue result → find (is_moved (shown new.now) kind.Reverse) old.now.reverse.items ≡ None }
 {
-    match new.realms.get(nth) {
+    match new.parts.realms.get(nth) {
         Some(realm) => !realm.gone && realm.reverse == old.reverse,
         None => false,
     }
@@ -128,13 +128,13 @@ fn moved_endpoint(old: &Config, new: &Config) -> Option<Endpoint>
     ensures none { IfNone result (KeepsKinds (shown old.now) (shown new.now)) }
     ensures some { IfSome result (HasMoved (shown old.now) (shown new.now)) }
 {
-    if let Some(moved) = moved_of(old.auth.as_slice(), PlaceKind::Auth, new) {
+    if let Some(moved) = moved_of(old.parts.auth.as_slice(), PlaceKind::Auth, new) {
         return Some(moved);
     }
-    if let Some(moved) = moved_of(old.acct.as_slice(), PlaceKind::Acct, new) {
+    if let Some(moved) = moved_of(old.parts.acct.as_slice(), PlaceKind::Acct, new) {
         return Some(moved);
     }
-    moved_of_realms(old.realms.as_slice(), new)
+    moved_of_realms(old.parts.realms.as_slice(), new)
 }
 
 /// Returns why the new configuration may not follow the old one, if it may not.
@@ -142,10 +142,10 @@ pub fn hindrance_of(old: &Config, new: &Config) -> Option<Hindrance>
     ensures none { IfNone result (MayFollow (shown old.now) (shown new.now)) }
     ensures some { IfSome result (Hinders (shown old.now) (shown new.now)) }
 {
-    if new.top.seed != old.top.seed {
+    if new.parts.top.seed != old.parts.top.seed {
         return Some(Hindrance::Seed);
     }
-    if new.top.shards != old.top.shards {
+    if new.parts.top.shards != old.parts.top.shards {
         return Some(Hindrance::Shards);
     }
     if !keeps_numbers(old, new) {

@@ -66,10 +66,10 @@ fn is_at(config: &Config, kind: PlaceKind, endpoint: Endpoint) -> bool
     ensures { result ≡ is_among (endpoints_of (shown config.now) kind) endpoint }
 {
     match kind {
-        PlaceKind::Auth => is_among(config.auth.as_slice(), endpoint),
-        PlaceKind::Acct => is_among(config.acct.as_slice(), endpoint),
-        PlaceKind::Out => is_out(config.realms.as_slice(), endpoint),
-        PlaceKind::Reverse => is_reverse(config.realms.as_slice(), endpoint),
+        PlaceKind::Auth => is_among(config.parts.auth.as_slice(), endpoint),
+        PlaceKind::Acct => is_among(config.parts.acct.as_slice(), endpoint),
+        PlaceKind::Out => is_out(config.parts.realms.as_slice(), endpoint),
+        PlaceKind::Reverse => is_reverse(config.parts.realms.as_slice(), endpoint),
     }
 }
 

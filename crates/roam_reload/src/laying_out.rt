@@ -51,25 +51,13 @@ pub fn lay_out(alloc: Global, old: &Config, new: Config) -> Result<ConfigParts, 
     ensures ok { IfOk result (λ parts. shown_parts parts ≡ laid_out (shown old.now) (shown new)) }
     ensures err { result ≡ Err LayFault.Numbers → TooMany (laid_out (shown old.now) (shown new)) }
 {
-    let ConfigParts {
-        mut top,
-        auth,
-        acct,
-        reject,
-        peers,
-        realms,
-    } = new.into_parts();
-    let seed = old.top.seed;
-    top.seed = seed;
-    let peers = laid_peers(alloc, old.peers.as_slice(), peers)?;
-    let realms = laid_realms(alloc, old.realms.as_slice(), realms)?;
+    let mut parts = new.into_parts();
+    let peers = laid_peers(alloc, old.parts.peers.as_slice(), parts.peers)?;
+    let realms = laid_realms(alloc, old.parts.realms.as_slice(), parts.realms)?;
     have_numbers(peers.len(), realms.len())?;
-    Ok(ConfigParts {
-        top,
-        auth,
-        acct,
-        reject,
-        peers,
-        realms,
-    })
+    let seed = old.parts.top.seed;
+    parts.top.seed = seed;
+    parts.peers = peers;
+    parts.realms = realms;
+    Ok(parts)
 }

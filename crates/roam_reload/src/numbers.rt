@@ -77,6 +77,6 @@ fn keeps_realms(old: &[Realm], new: &[Realm]) -> bool
 pub(crate) fn keeps_numbers(old: &Config, new: &Config) -> bool
     ensures { IsTrue result ↔ KeepsNumbers (shown old.now) (shown new.now) }
 {
-    keeps_peers(old.peers.as_slice(), new.peers.as_slice())
-        && keeps_realms(old.realms.as_slice(), new.realms.as_slice())
+    keeps_peers(old.parts.peers.as_slice(), new.parts.peers.as_slice())
+        && keeps_realms(old.parts.realms.as_slice(), new.parts.realms.as_slice())
 }

@@ -43,7 +43,7 @@ own-realm old new realm own keeps =
 
 -- a call of the realm keeps what the book keeps
 pub kept-book : {A : Type 0} (config : Config) (realm : ℕ) (old new : Held) (m : RealmNumbers A)
-    (c : RealmConfig) → realm < vec_len config.realms → old.realm ≡ realm
+    (c : RealmConfig) → realm < vec_len config.parts.realms → old.realm ≡ realm
     → c ≡ realm_config (shown config) realm → keeps_in new ≡ keeps_in old
     → IsSound c (entries_in new c.index) m → IsEntryList (entries_in new c.index)
     → IsBook config realm new m
@@ -146,7 +146,7 @@ own-succeeds f r view config realm held n c v is own h =
 
 -- a book that begins keeps it
 pub new-book : {A : Type 0} (config : Config) (realm : ℕ) (held : Held) (n : RealmNumbers A)
-    (c : RealmConfig) (start : Start) → realm < vec_len config.realms → held.realm ≡ realm
+    (c : RealmConfig) (start : Start) → realm < vec_len config.parts.realms → held.realm ≡ realm
     → held.entries ≡ [] → c ≡ realm_config (shown config) realm → n.ticket ≡ start.ticket
     → start.ticket ≤ 2 ^ 63 → n.stream_position ≡ start.place → start.place < 2 ^ 68
     → length n.lanes.items ≡ link_count c → LanesTell c [] n.lanes.items

@@ -29,7 +29,7 @@ settings_of b = realm_config b.config b.realm
 
 -- what a book keeps
 pub record IsBook {A : Type 0} (config : Config) (realm : ℕ) (held : Held) (numbers : RealmNumbers A) : Type 0 where
-  pub configured : realm < vec_len config.realms
+  pub configured : realm < vec_len config.parts.realms
   pub own_entries : held.realm ≡ realm
   pub sound : IsSound (realm_config (shown config) realm) held.entries numbers
   pub list : IsEntryList held.entries

@@ -105,7 +105,7 @@ impl<'c, A: Allocator + Copy> Book<'c, A> {
         realm: u16,
         start: Start,
     ) -> Result<Book<'c, A>, NoMemory>
-        requires configured { realm < vec_len config.now.realms }
+        requires configured { realm < vec_len config.now.parts.realms }
         requires place { start.place < 2 ^ 68 }
         requires ticket { start.ticket ≤ 2 ^ 63 }
         ensures config { IfOk result (λ b. b.config ≡ shown config.now) }

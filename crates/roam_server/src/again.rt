@@ -24,12 +24,12 @@ pub fn take_again<R: Net, S>(
     configured: &Configured,
     outboxes: &mut Vec<Outbox<Global>>,
 ) -> Result<EpochParts, ServeFault>
-    ensures blanks { IfOk result (λ parts. count_of parts.blanks ≡ configured.now.config.top.shards) }
+    ensures blanks { IfOk result (λ parts. count_of parts.blanks ≡ configured.now.config.parts.top.shards) }
     ensures err { IfErr result IsAfterBinding }
 {
     let config = &configured.config;
     let sockets = socket_numbers(config);
-    fill_outboxes(server.alloc, config.top.shards, sockets, outboxes)?;
+    fill_outboxes(server.alloc, config.parts.top.shards, sockets, outboxes)?;
     let wanted = descriptors_wanted(config, config);
     EpochParts::new(server.rt, server.alloc, configured, wanted)
 }
@@ -44,7 +44,7 @@ pub fn try_again<R: Host, S: Source>(
     is_told: &mut bool,
 ) -> Option<Result<EpochParts, ServeFault>>
     ensures blanks { IfSome result (λ ready.
-        IfOk ready (λ parts. count_of parts.blanks ≡ configured.now.config.top.shards)) }
+        IfOk ready (λ parts. count_of parts.blanks ≡ configured.now.config.parts.top.shards)) }
     ensures err { IfSome result (λ ready. IfErr ready IsAfterBinding) }
     ensures shards { carry.new.shards ≡ carry.old.shards }
 {

@@ -32,7 +32,7 @@ fn begin_one(
     starts: &[Start],
     items: &[Item<'_>],
 ) -> Result<(Paused<Global>, u64), ServeFault>
-    requires number { shard < config.now.top.shards }
+    requires number { shard < config.now.parts.top.shards }
     requires good { AreStarts (shown config.now) starts.now }
     requires first { starts.now ≡ fresh_starts (shown config.now) }
     ensures ok { IfOk result (λ begun. HasBegun (shown config.now) (shown_items items.now) shard begun.0) }
@@ -57,9 +57,9 @@ fn first_shards(
     ensures err { IfErr result IsAfterBinding }
 {
     let starts = first_starts(alloc, config)?;
-    let mut shards = Vec::with_capacity(alloc, usize::from(config.top.shards))?;
+    let mut shards = Vec::with_capacity(alloc, usize::from(config.parts.top.shards))?;
     let mut taken = 0u64;
-    for shard in 0..config.top.shards {
+    for shard in 0..config.parts.top.shards {
         let (begun, more) = begin_one(alloc, config, shard, starts.as_slice(), items)?;
         shards.push(begun)?;
         taken = taken.saturating_add(more);

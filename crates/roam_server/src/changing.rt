@@ -45,7 +45,7 @@ fn count_losses(counters: &Option<Counters>, before: &Config, losses: &[Loss]) {
     let Some(counters) = counters else {
         return;
     };
-    for realm in 0..before.realms.len() {
+    for realm in 0..before.parts.realms.len() {
         if let Some(loss) = losses.get(realm) {
             let (waiting, held) = (loss.waiting as u64, loss.held as u64);
             counters.dropped(realm as u16, waiting, held, loss.sessions as u64);
@@ -99,8 +99,8 @@ pub fn change<R: Log, S>(
     ensures paused { ArePaused (shown configured.new.config) carry.new.shards.items }
     ensures goes_on { GoOn (shown configured.old.config) carry.old.shards.items
         (shown configured.new.config) carry.new.shards.items }
-    ensures count { configured.new.config.top.shards ≡ configured.old.config.top.shards }
-    ensures blanks { HasBlanks configured.new.config.top.shards result }
+    ensures count { configured.new.config.parts.top.shards ≡ configured.old.config.parts.top.shards }
+    ensures blanks { HasBlanks configured.new.config.parts.top.shards result }
 {
     let Next {
         configured: mut after,

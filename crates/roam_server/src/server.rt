@@ -40,7 +40,7 @@ pub struct First {
     pub configured: Configured,
     pub carry: Carryover,
     pub parts: EpochParts,
-    ghost one_for_each: { count_of parts.blanks ≡ configured.config.top.shards },
+    ghost one_for_each: { count_of parts.blanks ≡ configured.config.parts.top.shards },
 }
 
 /// Returns the socket at which the counts are asked for, where there is one. Tells where it can't be had.
@@ -180,7 +180,7 @@ fn make_first<R: Net>(rt: &R, alloc: Global, configured: Configured) -> Result<F
     let mut outboxes = Vec::new(alloc);
     fill_outboxes(
         alloc,
-        config.top.shards,
+        config.parts.top.shards,
         socket_numbers(config),
         &mut outboxes,
     )?;
@@ -220,8 +220,8 @@ fn serve_bound<R: Host, S: Source>(
     let config = &configured.config;
     let listener = listener(rt, config, watch);
     let losses = SharedLosses::new();
-    let reclaimer = Reclaimer::new(alloc, config.top.shards)?;
-    let admin = Admin::new(rt, alloc, start, config.top.shards, build_of(watch))?;
+    let reclaimer = Reclaimer::new(alloc, config.parts.top.shards)?;
+    let admin = Admin::new(rt, alloc, start, config.parts.top.shards, build_of(watch))?;
     let stopping = Stopping::new();
     let first = make_first(rt, alloc, configured)?;
     let mut server = ServerParts {

@@ -25,7 +25,7 @@ fn serve_once<R: Host, S: Source>(
     parts: EpochParts,
 ) -> Result<(EpochEnd, Carryover), ServeFault>
     requires paused { ArePaused (shown configured.now.config) carry.shards.items }
-    requires blanks { count_of parts.blanks ≡ configured.now.config.top.shards }
+    requires blanks { count_of parts.blanks ≡ configured.now.config.parts.top.shards }
     ensures ok { IfOk result (λ served.
         IsServedOn (shown configured.now.config) carry.shards.items served.0 served.1) }
     ensures err { IfErr result IsAfterBinding }
@@ -44,7 +44,7 @@ fn serve_ready<R: Host, S: Source>(
     ready: Result<EpochParts, ServeFault>,
 ) -> Result<(EpochEnd, Carryover), ServeFault>
     requires paused { ArePaused (shown configured.now.config) carry.shards.items }
-    requires blanks { IfOk ready (λ parts. count_of parts.blanks ≡ configured.now.config.top.shards) }
+    requires blanks { IfOk ready (λ parts. count_of parts.blanks ≡ configured.now.config.parts.top.shards) }
     requires fault { IfErr ready IsAfterBinding }
     ensures ok { IfOk result (λ served.
         IsServedOn (shown configured.now.config) carry.shards.items served.0 served.1) }
@@ -66,11 +66,11 @@ fn follow_next<R: Host, S: Source>(
 ) -> Result<EpochParts, ServeFault>
     requires paused { ArePaused (shown configured.old.config) carry.old.shards.items }
     requires may { MayFollow (shown configured.old.config) (shown next.configured.config) }
-    ensures blanks { IfOk result (λ parts. count_of parts.blanks ≡ configured.new.config.top.shards) }
+    ensures blanks { IfOk result (λ parts. count_of parts.blanks ≡ configured.new.config.parts.top.shards) }
     ensures paused { ArePaused (shown configured.new.config) carry.new.shards.items }
     ensures goes_on { GoOn (shown configured.old.config) carry.old.shards.items
         (shown configured.new.config) carry.new.shards.items }
-    ensures count { configured.new.config.top.shards ≡ configured.old.config.top.shards }
+    ensures count { configured.new.config.parts.top.shards ≡ configured.old.config.parts.top.shards }
     ensures err { IfErr result IsAfterBinding }
 {
     match change(server, configured, carry, next) {
@@ -106,9 +106,9 @@ fn after_epoch<R: Host, S: Source>(
     ensures paused { ArePaused (shown configured.new.config) carry.new.shards.items }
     ensures goes_on { GoOn (shown configured.old.config) carry.old.shards.items
         (shown configured.new.config) carry.new.shards.items }
-    ensures count { configured.new.config.top.shards ≡ configured.old.config.top.shards }
+    ensures count { configured.new.config.parts.top.shards ≡ configured.old.config.parts.top.shards }
     ensures blanks { IfOk result (λ some. IfSome some (λ ready.
-        IfOk ready (λ parts. count_of parts.blanks ≡ configured.new.config.top.shards))) }
+        IfOk ready (λ parts. count_of parts.blanks ≡ configured.new.config.parts.top.shards))) }
     ensures fault { IfOk result (λ some. IfSome some (λ ready. IfErr ready IsAfterBinding)) }
     ensures err { IfErr result IsAfterBinding }
 {
@@ -142,7 +142,7 @@ pub(crate) fn serve_all<R: Host, S: Source>(
     first: Carryover,
     parts: EpochParts,
 ) -> Result<u64, ServeFault>
-    requires blanks { count_of parts.blanks ≡ configured.old.config.top.shards }
+    requires blanks { count_of parts.blanks ≡ configured.old.config.parts.top.shards }
     ensures ok { IfOk result (λ steps. HasServedAll (shown configured.old.config)) }
     ensures err { IfErr result IsAfterBinding }
 {

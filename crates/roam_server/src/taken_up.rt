@@ -30,7 +30,7 @@ fn open_at(config: &Config, number: u16, shard: &Shard<'_, Global>, realm: u16) 
 /// Returns how many sessions are open in the shard of a number.
 pub fn count_in(config: &Config, number: u16, shard: &Shard<'_, Global>) -> u64 {
     let mut open = 0u64;
-    for realm in 0..config.realms.len() {
+    for realm in 0..config.parts.realms.len() {
         open = open.saturating_add(open_at(config, number, shard, realm as u16));
     }
     open

@@ -165,7 +165,7 @@ fn cause_by_names<A: Allocator + Copy>(
 fn names_sessions(config: &Config, realm: u16) -> bool
     ensures { result ≡ names_sessions (slice_get (shown config.now).realms realm) }
 {
-    match config.realms.get(usize::from(realm)) {
+    match config.parts.realms.get(usize::from(realm)) {
         Some(realm) => realm.own_sessions,
         None => false,
     }
@@ -204,7 +204,7 @@ pub fn route_of<A: Allocator + Copy>(
         (shown config.now).peers realm named request.now.attributes sessions.now.sessions }
     ensures target { IfOk result (λ peer. Some peer
         ≡ target (shown config.now).peers request.now.attributes) }
-    ensures bound { IfOk result (λ peer. peer < vec_len config.now.peers) }
+    ensures bound { IfOk result (λ peer. peer < vec_len config.now.parts.peers) }
 {
     let Some(peer) = target(config, request) else {
         return Err(REQUEST_NOT_ROUTABLE);

@@ -79,10 +79,10 @@ fn peer_named(
 /// Returns a peer, where it takes Disconnect- and CoA-Requests.
 fn with_coa(config: &Config, peer: Option<u16>) -> Option<u16>
     ensures value { result ≡ with_coa (shown config.now).peers peer }
-    ensures bound { IfSome result (λ peer. peer < vec_len config.now.peers) }
+    ensures bound { IfSome result (λ peer. peer < vec_len config.now.parts.peers) }
 {
     let index = peer?;
-    match config.peers.get(usize::from(index)) {
+    match config.parts.peers.get(usize::from(index)) {
         Some(peer) if peer.coa.is_some() => Some(index),
         _ => None,
     }
@@ -94,7 +94,7 @@ fn with_coa(config: &Config, peer: Option<u16>) -> Option<u16>
 #[tactic(auto, unfolding(crate::specs::Target::target))]
 pub fn target(config: &Config, request: &View<'_>) -> Option<u16>
     ensures value { result ≡ target (shown config.now).peers request.now.attributes }
-    ensures bound { IfSome result (λ peer. peer < vec_len config.now.peers) }
+    ensures bound { IfSome result (λ peer. peer < vec_len config.now.parts.peers) }
 {
     let operator = request.first(OPERATOR_NAME);
     let named = peer_named(config, operator, nas_of(request), ipv6_of(config, request));

@@ -85,7 +85,7 @@ pub distinct_in : (config : Config) (realm : ℕ) → realm < length (shown conf
     → AreDistinct (realm_config (shown config) realm).realm
 distinct_in config realm lt = record {
   once = pair_free (shown config).realms realm config.distinct_servers lt;
-  serve = serve_in config.realms.items realm lt;
+  serve = serve_in config.parts.realms.items realm lt;
 }
 
 -- what a realm's entries and numbers become is said by its parts of both configurations

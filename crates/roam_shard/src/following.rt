@@ -62,14 +62,19 @@ fn goes_on(from: &Config, to: &Config, shard: u16, realm: u16) -> bool
 fn clear_others<A: Allocator + Copy>(entries: &mut Tables<A>, change: Succession<'_, '_, '_>)
     ensures stay { (r : ℕ) → GoesOn (shown change.entry.from.now) (shown change.entry.to.now) change.entry.shard r
         → entries_in entries.new r ≡ entries_in entries.old r }
-    ensures gone { (r : ℕ) → r < vec_len change.entry.to.now.realms
+    ensures gone { (r : ℕ) → r < vec_len change.entry.to.now.parts.realms
         → ¬ GoesOn (shown change.entry.from.now) (shown change.entry.to.now) change.entry.shard r
         → entries_in entries.new r ≡ [] }
     ensures lists { ((r : ℕ) → IsEntryList (entries_in entries.old r))
         → (r : ℕ) → IsEntryList (entries_in entries.new r) }
     ensures realms { length entries.new ≡ length entries.old }
 {
-    let most = change.from.realms.len().max(change.to.realms.len());
+    let most = change
+        .from
+        .parts
+        .realms
+        .len()
+        .max(change.to.parts.realms.len());
     for realm in 0..most {
         if !goes_on(change.from, change.to, change.shard, realm as u16) {
             entries.clear(realm as u16);
@@ -87,7 +92,7 @@ fn carried<A: Allocator + Copy>(
 ) -> RealmNumbers<A>
     requires carried { GoesOn (shown change.from.now) (shown change.to.now) change.shard realm }
     requires changed { AreChanged (shown change.from.now).peers (shown change.to.now).peers change.changed.now }
-    requires seed { change.to.now.top.seed ≡ change.from.now.top.seed }
+    requires seed { change.to.now.parts.top.seed ≡ change.from.now.parts.top.seed }
     requires sound { IsSound (realm_config (shown change.from.now) realm) (entries_in entries.old realm) numbers }
     requires ready { IsReadyToCarry (realm_config (shown change.from.now) realm)
         (realm_config (shown change.to.now) realm) numbers lanes }
@@ -117,9 +122,9 @@ fn go_over<A: Allocator + Copy>(
     before: &mut Vec<Option<RealmNumbers<A>>, A>,
     fresh: FreshRealm<A>,
 ) -> Option<RealmNumbers<A>>
-    requires configured { realm < vec_len change.to.now.realms }
+    requires configured { realm < vec_len change.to.now.parts.realms }
     requires changed { AreChanged (shown change.from.now).peers (shown change.to.now).peers change.changed.now }
-    requires seed { change.to.now.top.seed ≡ change.from.now.top.seed }
+    requires seed { change.to.now.parts.top.seed ≡ change.from.now.parts.top.seed }
     requires within { GoesOn (shown change.from.now) (shown change.to.now) change.shard realm
         → realm < length before.old.items }
     requires can { GoesOn (shown change.from.now) (shown change.to.now) change.shard realm
@@ -151,11 +156,11 @@ fn all_over<A: Allocator + Copy>(
     realms: Vec<FreshRealm<A>, A>,
     mut numbers: Vec<Option<RealmNumbers<A>>, A>,
 ) -> Vec<Option<RealmNumbers<A>>, A>
-    requires count { length realms.items ≡ vec_len change.to.now.realms }
-    requires room { vec_len change.to.now.realms ≤ vec_capacity numbers }
+    requires count { length realms.items ≡ vec_len change.to.now.parts.realms }
+    requires room { vec_len change.to.now.parts.realms ≤ vec_capacity numbers }
     requires none_yet { numbers.items ≡ [] }
     requires changed { AreChanged (shown change.from.now).peers (shown change.to.now).peers change.changed.now }
-    requires seed { change.to.now.top.seed ≡ change.from.now.top.seed }
+    requires seed { change.to.now.parts.top.seed ≡ change.from.now.parts.top.seed }
     requires within { (r : ℕ) → GoesOn (shown change.from.now) (shown change.to.now) change.shard r
         → r < length before.old.items }
     requires can { AllCanGoOver (shown change.from.now) (shown change.to.now) change.shard (entries_in entries.old)
@@ -181,10 +186,10 @@ impl<A: Allocator + Copy> Paused<A> {
         new: &Config,
         realm: u16,
     ) -> Result<Option<FreshLanes<A>>, NoMemory>
-        requires configured { realm < vec_len new.now.realms }
+        requires configured { realm < vec_len new.now.parts.realms }
         requires goes_on { GoesOn (shown old.now) (shown new.now) self.old.shard realm }
         requires stands { StandsUnder (shown old.now) self.old }
-        requires shards { new.now.top.shards ≡ old.now.top.shards }
+        requires shards { new.now.parts.top.shards ≡ old.now.parts.top.shards }
         ensures still { StandsStill (shown old.now) self.old self.new }
         ensures others { KeepsOthers realm self.old self.new }
         ensures ready { IfOk result (AreLanesReady (shown old.now) (shown new.now) realm self.new.numbers.items) }
@@ -205,9 +210,9 @@ impl<A: Allocator + Copy> Paused<A> {
         new: &Config,
         realm: u16,
     ) -> Result<FreshRealm<A>, NoMemory>
-        requires configured { realm < vec_len new.now.realms }
+        requires configured { realm < vec_len new.now.parts.realms }
         requires stands { StandsUnder (shown old.now) self.old }
-        requires shards { new.now.top.shards ≡ old.now.top.shards }
+        requires shards { new.now.parts.top.shards ≡ old.now.parts.top.shards }
         ensures still { StandsStill (shown old.now) self.old self.new }
         ensures others { KeepsOthers realm self.old self.new }
         ensures ready { IfOk result (IsReadyAt (shown old.now) (shown new.now) self.new.shard realm
@@ -232,15 +237,19 @@ impl<A: Allocator + Copy> Paused<A> {
     /// refused. The shard stands as it did, refused or not.
     pub fn reserve(&mut self, old: &Config, new: &Config) -> Result<FreshNumbers<A>, NoMemory>
         requires stands { StandsUnder (shown old.now) self.old }
-        requires shards { new.now.top.shards ≡ old.now.top.shards }
+        requires shards { new.now.parts.top.shards ≡ old.now.parts.top.shards }
         ensures still { StandsStill (shown old.now) self.old self.new }
         ensures ready { IfOk result (IsReady (shown old.now) (shown new.now) self.new) }
     {
-        self.entries.add_realms(self.alloc, new.realms.len())?;
-        let changed = changed_peers(self.alloc, old.peers.as_slice(), new.peers.as_slice())?;
-        let numbers = Vec::with_capacity(self.alloc, new.realms.len())?;
-        let mut realms = Vec::with_capacity(self.alloc, new.realms.len())?;
-        for realm in 0..new.realms.len() {
+        self.entries.add_realms(self.alloc, new.parts.realms.len())?;
+        let changed = changed_peers(
+            self.alloc,
+            old.parts.peers.as_slice(),
+            new.parts.peers.as_slice(),
+        )?;
+        let numbers = Vec::with_capacity(self.alloc, new.parts.realms.len())?;
+        let mut realms = Vec::with_capacity(self.alloc, new.parts.realms.len())?;
+        for realm in 0..new.parts.realms.len() {
             let fresh = self.reserve_one(old, new, realm as u16)?;
             realms.push_reserved(fresh);
         }
@@ -256,8 +265,8 @@ impl<A: Allocator + Copy> Paused<A> {
     pub fn follow(&mut self, old: &Config, new: &Config, fresh: FreshNumbers<A>)
         requires stands { StandsUnder (shown old.now) self.old }
         requires ready { IsReady (shown old.now) (shown new.now) self.old fresh }
-        requires shards { new.now.top.shards ≡ old.now.top.shards }
-        requires seed { new.now.top.seed ≡ old.now.top.seed }
+        requires shards { new.now.parts.top.shards ≡ old.now.parts.top.shards }
+        requires seed { new.now.parts.top.seed ≡ old.now.parts.top.seed }
         ensures stands { StandsUnder (shown new.now) self.new }
         ensures follow { AllFollow (shown old.now) (shown new.now) self.old.shard
             (states_under (shown old.now) self.old) (states_under (shown new.now) self.new) }

@@ -22,7 +22,7 @@ fn all_reserved<A: Allocator + Copy>(
     shards: &mut Vec<Paused<A>, A>,
 ) -> Result<Vec<FreshNumbers<A>, A>, NoMemory>
     requires paused { ArePaused (shown old.now) shards.old.items }
-    requires shards { new.now.top.shards ≡ old.now.top.shards }
+    requires shards { new.now.parts.top.shards ≡ old.now.parts.top.shards }
     ensures still { StandAsBefore (shown old.now) shards.old.items shards.new.items }
     ensures ready { IfOk result (λ fresh. AreReady (shown old.now) (shown new.now) shards.new.items fresh.items) }
 {
@@ -43,8 +43,8 @@ fn all_follow<A: Allocator + Copy>(
 )
     requires paused { ArePaused (shown old.now) shards.old.items }
     requires ready { AreReady (shown old.now) (shown new.now) shards.old.items fresh.items }
-    requires shards { new.now.top.shards ≡ old.now.top.shards }
-    requires seed { new.now.top.seed ≡ old.now.top.seed }
+    requires shards { new.now.parts.top.shards ≡ old.now.parts.top.shards }
+    requires seed { new.now.parts.top.seed ≡ old.now.parts.top.seed }
     ensures { HaveFollowed (shown old.now) (shown new.now) shards.old.items shards.new.items }
 {
     let mut number = 0;
@@ -70,8 +70,8 @@ pub fn follow<A: Allocator + Copy>(
     is_agreed: bool,
 ) -> Result<Vec<Loss, A>, Declined<A>>
     requires paused { ArePaused (shown old.now) shards.old.items }
-    requires shards { new.now.top.shards ≡ old.now.top.shards }
-    requires seed { new.now.top.seed ≡ old.now.top.seed }
+    requires shards { new.now.parts.top.shards ≡ old.now.parts.top.shards }
+    requires seed { new.now.parts.top.seed ≡ old.now.parts.top.seed }
     ensures ok { OnOk result
         (HaveFollowed (shown old.now) (shown new.now) shards.old.items shards.new.items) }
     ensures err { OnErr result

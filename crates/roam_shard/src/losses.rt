@@ -79,9 +79,13 @@ pub(crate) fn all_losses<A: Allocator + Copy>(
     ensures losses { IfOk result (λ losses.
         AreLosses (shown old.now) (shown new.now) shards.old.items losses.items) }
 {
-    let changed = changed_peers(alloc, old.peers.as_slice(), new.peers.as_slice())?;
-    let mut losses = Vec::with_capacity(alloc, old.realms.len())?;
-    for realm in 0..old.realms.len() {
+    let changed = changed_peers(
+        alloc,
+        old.parts.peers.as_slice(),
+        new.parts.peers.as_slice(),
+    )?;
+    let mut losses = Vec::with_capacity(alloc, old.parts.realms.len())?;
+    for realm in 0..old.parts.realms.len() {
         let loss = loss_of(old, new, changed.as_slice(), shards, realm as u16)?;
         losses.push_reserved(loss);
     }

@@ -27,8 +27,8 @@ pub fn first_starts<A: Allocator>(alloc: A, config: &Config) -> Result<Vec<Start
         place: 0,
         ticket: 0,
     };
-    let mut starts = Vec::with_capacity(alloc, config.realms.len())?;
-    for _realm in 0..config.realms.len() {
+    let mut starts = Vec::with_capacity(alloc, config.parts.realms.len())?;
+    for _realm in 0..config.parts.realms.len() {
         starts.push(first)?;
     }
     Ok(starts)

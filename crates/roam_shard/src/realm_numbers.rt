@@ -39,7 +39,7 @@ pub(crate) fn opened_at<A: Allocator + Copy>(
     realm: u16,
     start: Start,
 ) -> Result<Option<RealmNumbers<A>>, NoMemory>
-    requires configured { realm < vec_len config.now.realms }
+    requires configured { realm < vec_len config.now.parts.realms }
     requires start { IsStart start }
     ensures { IfOk result (IsOpened (realm_config (shown config.now) realm) start
         (is_in_shard (shown config.now) shard realm)) }

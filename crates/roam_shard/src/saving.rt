@@ -94,10 +94,10 @@ fn realm_named(config: &Config, name: Text<'_>, own_sessions: bool) -> Option<u1
     ensures { (index : ℕ) → is_named (shown config.now) index (shown_text name.entry) own_sessions
         ≡ option_map_or (λ realm. index == realm) result false }
 {
-    let Some(index) = index_named(config.realms.as_slice(), name.octets) else {
+    let Some(index) = index_named(config.parts.realms.as_slice(), name.octets) else {
         return None;
     };
-    let realm = &config.realms[usize::from(index)];
+    let realm = &config.parts.realms[usize::from(index)];
     if realm.own_sessions == own_sessions {
         Some(index)
     } else {

@@ -75,14 +75,14 @@ impl<'c, A: Allocator + Copy> Shard<'c, A> {
         shard: u16,
         starts: &[Start],
     ) -> Result<Shard<'c, A>, NoMemory>
-        requires shard { shard < config.now.top.shards }
+        requires shard { shard < config.now.parts.top.shards }
         requires starts { AreStarts (shown config.now) starts.now }
         ensures opening { IfOk result (λ s. s.opening
             ≡ record { shard = shard; config = shown config.now; starts = starts.now }) }
         ensures states { IfOk result (λ s. s.states ≡ openings (shown config.now) starts.now) }
     {
         let numbers = opened_numbers(alloc, config, shard, starts)?;
-        let entries = Tables::new(alloc, hash_key(config), config.realms.len())?;
+        let entries = Tables::new(alloc, hash_key(config), config.parts.realms.len())?;
         let starts = Vec::from_slice(alloc, starts)?;
         Ok(Shard {
             alloc,

@@ -57,8 +57,8 @@ impl<'c, A: Allocator + Copy> Shards<'c, A> {
         ensures config { IfOk result (λ s. s.config ≡ shown config.now) }
         ensures states { IfOk result (λ s. s.states ≡ openings (shown config.now) starts.now) }
     {
-        let mut shards = Vec::with_capacity(alloc, usize::from(config.top.shards))?;
-        for shard in 0..config.top.shards {
+        let mut shards = Vec::with_capacity(alloc, usize::from(config.parts.top.shards))?;
+        for shard in 0..config.parts.top.shards {
             shards.push(Shard::new(alloc, config, shard, starts)?)?;
         }
         Ok(Shards {
@@ -131,7 +131,7 @@ impl<'c, A: Allocator + Copy> Shards<'c, A> {
         ensures whole { length self.old.states ≡ length self.old.config.realms }
         ensures shards { 1 ≤ self.old.config.shards }
     {
-        if shard >= self.config.top.shards {
+        if shard >= self.config.parts.top.shards {
             return Ok(refused(self.alloc, Refusal::NoShard));
         }
         self.tick_shard(now, shard)

@@ -105,11 +105,13 @@ reverse_within nth (r ∷ rs) zero e is = by_gone r.gone is
 nth_within : (config : Config) (at : Place) (e : Endpoint) → socket_endpoint (shown config) at ≡ Some e
     → place_nth at < 16
 nth_within config (place.Auth nth) e is =
-    let lt = slice_get_within config.auth.items nth e is in let few = config.auth_count.1 in omega (arith, lt, few)
+    let parts = config.parts in
+    let lt = slice_get_within parts.auth.items nth e is in let few = parts.auth_count.1 in omega (arith, lt, few)
 nth_within config (place.Acct nth) e is =
-    let lt = slice_get_within config.acct.items nth e is in let few = config.acct_count.1 in omega (arith, lt, few)
-nth_within config (place.Out realm nth) e is = out_within nth config.realms.items realm e is
-nth_within config (place.Reverse realm nth) e is = reverse_within nth config.realms.items realm e is
+    let parts = config.parts in
+    let lt = slice_get_within parts.acct.items nth e is in let few = parts.acct_count.1 in omega (arith, lt, few)
+nth_within config (place.Out realm nth) e is = out_within nth config.parts.realms.items realm e is
+nth_within config (place.Reverse realm nth) e is = reverse_within nth config.parts.realms.items realm e is
 
 -- so it is of all places of the number
 pub up_all : (config : Config) (number n : ℕ) (old new : List BoundSocket) → 16 ≤ n

@@ -9,4 +9,4 @@ use Rattle.roam_conf.specs.Config.{ConfigView}
 -- Stands in: `roam_sockets` `Seeded.antt`: `seeded`; `with_drawn_seed`
 --
 abbrev pub seeded : ConfigView → List ℕ → ConfigView
-seeded config seed = record config { seed = seed }
+seeded config seed = record config { top = record config.top { seed = seed } }

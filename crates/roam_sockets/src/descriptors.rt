@@ -19,7 +19,7 @@ fn descriptors_of(config: &Config) -> u32
     ensures value { result ≡ spec.descriptors_of (shown config.now) }
     ensures bound { result ≤ 2 ^ 20 }
 {
-    let workers = u32::from(config.top.shards);
+    let workers = u32::from(config.parts.top.shards);
     let more = shared_places(config) * (sockets_of_several(config) as u32 - 1);
     socket_count(config) as u32 + more + 3 * (workers + 1)
 }
@@ -29,7 +29,7 @@ fn shared_places(config: &Config) -> u32
     ensures value { result ≡ length (shown config.now).auth + length (shown config.now).acct }
     ensures bound { result ≤ 16 }
 {
-    (config.auth.len() + config.acct.len()) as u32
+    (config.parts.auth.len() + config.parts.acct.len()) as u32
 }
 
 /// Returns how many descriptors a server wants in all that serves one configuration and changes to another: those of

@@ -13,7 +13,7 @@ fn with_seed(config: Config, seed: [u8; 32]) -> Config
     ensures { shown result ≡ seeded (shown config) seed }
 {
     let mut config = config;
-    config.top.seed = seed;
+    config.parts.top.seed = seed;
     config
 }
 
@@ -23,7 +23,7 @@ fn with_seed(config: Config, seed: [u8; 32]) -> Config
 ///
 /// `Seed`, where none can be drawn.
 pub fn with_drawn_seed<R: RandomSource>(rt: &R, config: Config) -> Result<Config, ServeFault>
-    ensures ok { IfOk result (λ c. shown c ≡ seeded (shown config) c.top.seed) }
+    ensures ok { IfOk result (λ c. shown c ≡ seeded (shown config) c.parts.top.seed) }
     ensures err { IfErr result (λ fault. fault ≡ ServeFault.Seed) }
 {
     let mut seed = [0; 32];

@@ -23,7 +23,7 @@ pub(crate) fn has_several(place: Place) -> bool
 
 /// Returns whether each worker has sockets of its own at a place.
 pub(crate) fn is_spread_at(config: &Config, place: Place) -> bool {
-    config.top.spread && has_several(place)
+    config.parts.top.spread && has_several(place)
 }
 
 /// Returns how many sockets an `auth` or `acct` has: of each worker as many where they are spread.
@@ -32,8 +32,8 @@ pub(crate) fn sockets_of_several(config: &Config) -> usize
     ensures some { 1 ≤ result }
     ensures bound { result ≤ 512 }
 {
-    if config.top.spread {
-        SOCKETS_OF_A_PLACE * usize::from(config.top.shards)
+    if config.parts.top.spread {
+        SOCKETS_OF_A_PLACE * usize::from(config.parts.top.shards)
     } else {
         SOCKETS_OF_A_PLACE
     }
@@ -52,10 +52,10 @@ pub(crate) fn wanted_at(config: &Config, place: Place) -> usize
 
 /// Returns the worker that hears a socket of a place, by how many came there before it.
 pub(crate) fn worker_of_nth(config: &Config, place: Place, before: usize) -> usize {
-    let workers = usize::from(config.top.shards);
+    let workers = usize::from(config.parts.top.shards);
     if is_spread_at(config, place) {
         before % workers
     } else {
-        worker_of(place, workers, config.top.spread)
+        worker_of(place, workers, config.parts.top.spread)
     }
 }

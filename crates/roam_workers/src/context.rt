@@ -99,7 +99,7 @@ impl<H: HubCalls<Global, N>, N: Opened> WorkerContext<'_, '_, H, N> {
             × (self.new.outgoing ≡ self.old.outgoing) }
     {
         self.now = now(rt, self.epoch.start, self.now);
-        self.seconds = match self.epoch.config.top.fresh {
+        self.seconds = match self.epoch.config.parts.top.fresh {
             Some(_) => wall_seconds(rt),
             None => None,
         };
@@ -165,7 +165,7 @@ impl<H: HubCalls<Global, N>, N: Opened> WorkerContext<'_, '_, H, N> {
     {
         let epoch = self.epoch;
         let until = self.now.saturating_add(milliseconds);
-        for shard in 0..epoch.config.top.shards {
+        for shard in 0..epoch.config.parts.top.shards {
             match epoch.hub.is_due(rt, &mut self.seat, until, shard) {
                 Ok(false) => {}
                 _ => return false,
@@ -189,7 +189,7 @@ impl<H: HubCalls<Global, N>, N: Opened> WorkerContext<'_, '_, H, N> {
         }
         self.outgoing.put_all(answered.answer.outs);
         self.epoch.reclaimer.free_beside(answered.number);
-        if answered.octets > u64::from(self.epoch.config.top.trace_octets) {
+        if answered.octets > u64::from(self.epoch.config.parts.top.trace_octets) {
             self.let_go(rt, answered.shard);
         }
     }

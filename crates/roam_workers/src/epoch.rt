@@ -58,7 +58,7 @@ impl<'s, H, N: Opened> Epoch<'s, '_, H, N> {
     /// Returns the counts of the timer, which are those of the logger and of the server's own thread too.
     pub fn timer_counts(&self) -> Option<ThreadCounts<'s>> {
         self.counters?
-            .of_thread(usize::from(self.config.top.shards))
+            .of_thread(usize::from(self.config.parts.top.shards))
     }
 
     /// Returns whether all threads are to end.

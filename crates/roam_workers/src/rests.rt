@@ -51,8 +51,8 @@ fn moved(old: &[bool; SERVER_LINKS], before: &Realm, after: &Realm) -> [bool; SE
 impl Rests {
     /// Makes the list where no server is silent.
     pub fn new(alloc: Global, config: &Config) -> Result<Rests, AllocError> {
-        let mut silent = Vec::with_capacity(alloc, config.realms.len())?;
-        for _ in 0..config.realms.len() {
+        let mut silent = Vec::with_capacity(alloc, config.parts.realms.len())?;
+        for _ in 0..config.parts.realms.len() {
             silent.push([false; SERVER_LINKS])?;
         }
         Ok(Rests { silent, next: 0 })
@@ -68,8 +68,8 @@ impl Rests {
                     continue;
                 }
                 if let (Some(before), Some(after)) = (
-                    before.realms.get(number),
-                    after.realms.get(number),
+                    before.parts.realms.get(number),
+                    after.parts.realms.get(number),
                 ) {
                     *new = moved(old, before, after);
                 }

@@ -47,7 +47,7 @@ pub(crate) fn silence_of<R: Wait, H: HubCalls<Global, N>, N: Opened>(
     realm: u16,
     link: Link,
 ) -> Option<Silence> {
-    let servers = epoch.config.realms.get(usize::from(realm))?.servers.len();
+    let servers = epoch.config.parts.realms.get(usize::from(realm))?.servers.len();
     let place = place_of(servers, link)?;
     let gauges = epoch.hub.look(rt, seat, realm)?;
     let rest = gauges.rests.get(place)?;
@@ -117,7 +117,7 @@ pub fn tell_rests<R: Wait, H: HubCalls<Global, N>, N: Opened>(
     }
     rests.next = now.saturating_add(BETWEEN_LOOKS);
     let config = context.epoch.config;
-    for (number, realm) in config.realms.iter().enumerate() {
+    for (number, realm) in config.parts.realms.iter().enumerate() {
         tell_realm(rt, context, rests, number as u16, realm);
     }
 }
@@ -128,7 +128,7 @@ pub fn does_any_wait<R: Wait, H: HubCalls<Global, N>, N: Opened>(
     epoch: &Epoch<'_, '_, H, N>,
     seat: &Seat<Global, N>,
 ) -> bool {
-    for number in 0..epoch.config.realms.len() {
+    for number in 0..epoch.config.parts.realms.len() {
         match epoch.hub.look(rt, seat, number as u16) {
             Some(gauges) if gauges.in_use == 0 => {}
             _ => return true,

@@ -116,7 +116,7 @@ fn tick_all<R: Wait, H: HubCalls<Global, N>, N: Opened>(rt: &R, timer: &mut Time
     ensures { HasWorked N.opening (at_work timer.old.context.seat timer.old.context.counting timer.old.context.outgoing)
         (at_work timer.new.context.seat timer.new.context.counting timer.new.context.outgoing) }
 {
-    for shard in 0..timer.context.epoch.config.top.shards {
+    for shard in 0..timer.context.epoch.config.parts.top.shards {
         if timer.context.epoch.is_over() {
             return;
         }

@@ -71,7 +71,7 @@ pub fn admit(lane: &mut Lane, ticket: u64) -> Option<u8>
 /// 1 to 64 octets is the configuration's invariant: nothing here tests it.
 pub fn is_signed_by_peer(config: &Config, ip: Address, request: &View<'_>) -> bool {
     match config.peer_by_ip(ip) {
-        Some(peer) => is_signed_by(&config.peers[usize::from(peer)], request),
+        Some(peer) => is_signed_by(&config.parts.peers[usize::from(peer)], request),
         None => false,
     }
 }

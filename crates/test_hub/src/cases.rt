@@ -60,7 +60,7 @@ fn is_so_in<N: Opened + Send + Sync, R: Abort + Threads + Wait + Clock + Sync>(
 ) -> bool
     requires opening { N.opening ≡ fresh_opening (shown config.now) starts.now }
     requires books { N.books ≡ books_of blanks }
-    requires blanks { count_of blanks ≡ config.now.top.shards }
+    requires blanks { count_of blanks ≡ config.now.parts.top.shards }
     requires starts { AreStarts (shown config.now) starts.now }
 {
     let (hub, seat) = Hub::<Global, N>::open(alloc, config, starts, blanks)
@@ -78,7 +78,7 @@ fn is_so<R: Abort + Threads + Wait + Clock + Sync>(rt: &R, alloc: Global, case: 
     let (shards, limit, added) = setting(case);
     let config = config_of(rt, alloc, shards, limit, added);
     let starts = first_starts(alloc, &config).ok().expect(rt, "memory");
-    let blanks = Blanks::new(alloc, config.top.shards)
+    let blanks = Blanks::new(alloc, config.parts.top.shards)
         .ok()
         .expect(rt, "memory");
     is_so_in::<Brand, R>(rt, alloc, &config, &starts, blanks, case)

@@ -198,7 +198,7 @@ pub(crate) fn paused<A: Allocator + Copy, N: Opened + Send + Sync, R: Abort + Wa
 ) -> Vec<Paused<A>, A>
     requires opening { N.opening ≡ fresh_opening (shown config.now) starts.now }
     requires books { N.books ≡ books_of blanks }
-    requires blanks { count_of blanks ≡ config.now.top.shards }
+    requires blanks { count_of blanks ≡ config.now.parts.top.shards }
     requires starts { AreStarts (shown config.now) starts.now }
     ensures { ArePaused (shown config.now) result.items }
 {
@@ -222,7 +222,7 @@ pub(crate) fn goes_on<A: Allocator + Copy, N: Opened + Send + Sync, R: Abort + W
 ) -> bool
     requires opening { N.opening ≡ opening_over (shown config.now) shards.items }
     requires books { N.books ≡ books_of blanks }
-    requires blanks { count_of blanks ≡ config.now.top.shards }
+    requires blanks { count_of blanks ≡ config.now.parts.top.shards }
     requires paused { ArePaused (shown config.now) shards.items }
 {
     let Ok((hub, mut seat)) = Hub::<A, N>::open_over(alloc, config, shards, blanks) else {

@@ -30,7 +30,7 @@ fn opens<'r, N: Opened>(
 ) -> bool
     requires opening { N.opening ≡ fresh_opening (shown config.now) starts.now }
     requires books { N.books ≡ books_of blanks }
-    requires blanks { count_of blanks ≡ config.now.top.shards }
+    requires blanks { count_of blanks ≡ config.now.parts.top.shards }
     requires starts { AreStarts (shown config.now) starts.now }
 {
     Hub::<Over<'r>, N>::open(over, config, starts, blanks).is_ok()
@@ -49,7 +49,7 @@ fn open_is_refused<'r>(rt: &impl Abort, over: Over<'r>, config: &Config, starts:
     requires { AreStarts (shown config.now) starts.now }
 {
     for n in over.each_growth() {
-        let blanks = blanks(rt, over, config.top.shards);
+        let blanks = blanks(rt, over, config.parts.top.shards);
         over.refuse_nth(n);
         let is_refused = !opens::<Brand>(over, config, starts, blanks);
         if is_refused != over.was_refused() {
@@ -83,7 +83,7 @@ fn closed<'r, N: Opened + Send + Sync, R: Abort + Wait>(
 ) -> Option<usize>
     requires opening { N.opening ≡ fresh_opening (shown config.now) starts.now }
     requires books { N.books ≡ books_of blanks }
-    requires blanks { count_of blanks ≡ config.now.top.shards }
+    requires blanks { count_of blanks ≡ config.now.parts.top.shards }
     requires starts { AreStarts (shown config.now) starts.now }
 {
     let (hub, seat) = Hub::<Over<'r>, N>::open(over, config, starts, blanks)
@@ -107,7 +107,7 @@ fn close_is_refused<'r, R: Abort + Wait>(
     requires { AreStarts (shown config.now) starts.now }
 {
     for n in over.each_growth() {
-        let blanks = blanks(rt, over, config.top.shards);
+        let blanks = blanks(rt, over, config.parts.top.shards);
         let steps = closed::<Brand, R>(rt, over, n, config, starts, blanks);
         let expected = if over.was_refused() { None } else { Some(1) };
         if steps != expected {

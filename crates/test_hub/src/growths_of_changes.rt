@@ -29,7 +29,7 @@ fn stands<'r, R: Abort + Wait>(
 ) -> bool
     requires { ArePaused (shown config.now) shards.items }
 {
-    let blanks = blanks(rt, over, config.top.shards);
+    let blanks = blanks(rt, over, config.parts.top.shards);
     goes_on::<_, Brand, R>(rt, over, config, shards, blanks, &what_goes_on())
 }
 
@@ -46,7 +46,7 @@ fn follow_is_refused<'r, R: Abort + Wait>(
     requires may { MayFollow (shown old.now) (shown new.now) }
 {
     for n in over.each_growth() {
-        let blanks = blanks(rt, over, old.top.shards);
+        let blanks = blanks(rt, over, old.parts.top.shards);
         let mut shards = paused::<_, Brand, R>(rt, over, old, starts, blanks);
         over.refuse_nth(n);
         if follow(over, old, new, &mut shards, true).is_ok() {
@@ -70,7 +70,7 @@ fn opens<'r, N: Opened + Send + Sync, R: Abort + Wait>(
 ) -> bool
     requires opening { N.opening ≡ opening_over (shown config.now) shards.items }
     requires books { N.books ≡ books_of blanks }
-    requires blanks { count_of blanks ≡ config.now.top.shards }
+    requires blanks { count_of blanks ≡ config.now.parts.top.shards }
     requires paused { ArePaused (shown config.now) shards.items }
 {
     match Hub::<Over<'r>, N>::open_over(over, config, shards, blanks) {
@@ -89,9 +89,9 @@ fn open_over_is_refused<'r, R: Abort + Wait>(
     requires { AreStarts (shown config.now) starts.now }
 {
     for n in over.each_growth() {
-        let first = blanks(rt, over, config.top.shards);
+        let first = blanks(rt, over, config.parts.top.shards);
         let shards = paused::<_, Brand, R>(rt, over, config, starts, first);
-        let blanks = blanks(rt, over, config.top.shards);
+        let blanks = blanks(rt, over, config.parts.top.shards);
         over.refuse_nth(n);
         if !opens::<Brand, R>(rt, over, config, shards, blanks) {
             return false;
@@ -121,7 +121,7 @@ fn pause_is_refused<'r, N: Opened + Send + Sync, R: Abort + Wait>(
 ) -> bool
     requires opening { N.opening ≡ fresh_opening (shown config.now) starts.now }
     requires books { N.books ≡ books_of blanks }
-    requires blanks { count_of blanks ≡ config.now.top.shards }
+    requires blanks { count_of blanks ≡ config.now.parts.top.shards }
     requires starts { AreStarts (shown config.now) starts.now }
 {
     let opened = Hub::<Over<'r>, N>::open(over, config, starts, blanks);
@@ -138,7 +138,7 @@ pub(crate) fn are_refused<R: Abort + Wait>(rt: &R, alloc: Global) -> bool {
     let (old, new) = two_configurations(rt, alloc);
     let starts = first_starts(alloc, &old).ok().expect(rt, "memory");
     let over = Refusing::new(alloc);
-    let blanks = blanks(rt, &over, old.top.shards);
+    let blanks = blanks(rt, &over, old.parts.top.shards);
     let of_pause = pause_is_refused::<Brand, R>(rt, &over, &old, &starts, blanks);
     let of_follow = follow_is_refused(rt, &over, &old, &new, &starts);
     let of_open_over = open_over_is_refused(rt, &over, &old, &starts);

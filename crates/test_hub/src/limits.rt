@@ -25,7 +25,7 @@ fn goes_on<N: Opened + Send + Sync, R: Abort + Wait>(
 ) -> bool
     requires opening { N.opening ≡ fresh_opening (shown config.now) starts.now }
     requires books { N.books ≡ books_of blanks }
-    requires blanks { count_of blanks ≡ config.now.top.shards }
+    requires blanks { count_of blanks ≡ config.now.parts.top.shards }
     requires starts { AreStarts (shown config.now) starts.now }
 {
     let (hub, seat) = Hub::<Global, N>::open(alloc, config, starts, blanks)
@@ -54,7 +54,7 @@ pub(crate) fn full_and_goes_on<N: Opened + Send + Sync, R: Abort + Wait>(
     let report = hub.close(rt).expect(rt, "a report");
     let steps = report.steps.first().map(|steps| steps.len());
     let is_full = is_first && second == Some(HubFault::TraceFull) && steps == Some(1);
-    let blanks = Blanks::new(alloc, config.top.shards)
+    let blanks = Blanks::new(alloc, config.parts.top.shards)
         .ok()
         .expect(rt, "memory");
     is_full && goes_on::<Brand, R>(rt, alloc, config, &report.starts, blanks)

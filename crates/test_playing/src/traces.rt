@@ -43,7 +43,7 @@ fn trace_of<'c, A: Allocator + Copy>(
     number: u16,
     starts: &[Start],
 ) -> Result<Traced<'c, A>, NoMemory>
-    requires number { number < config.now.top.shards }
+    requires number { number < config.now.parts.top.shards }
     requires starts { AreStarts (shown config.now) starts.now }
     ensures { IfOk result (λ t. t.opening.config ≡ shown config.now) }
 {
@@ -60,8 +60,8 @@ fn traces_of<'c, A: Allocator + Copy>(
     requires { AreStarts (shown config.now) starts.now }
     ensures { IfOk result (λ v. All (λ t. t.opening.config ≡ shown config.now) v.items) }
 {
-    let mut traces = Vec::with_capacity(alloc, usize::from(config.top.shards))?;
-    for number in 0..config.top.shards {
+    let mut traces = Vec::with_capacity(alloc, usize::from(config.parts.top.shards))?;
+    for number in 0..config.parts.top.shards {
         traces.push(trace_of(alloc, config, number, starts)?)?;
     }
     Ok(traces)

@@ -82,7 +82,7 @@ fn plays_row<'r>(player: &mut Player<'_, 'r>, found: &Found<'_, 'r>, meets_refus
 
 /// Plays a row through hubs.
 fn plays_through_hubs<'r, R: Wait>(player: &mut Player<'_, 'r>, rt: &R, mut found: Found<'_, 'r>) {
-    found.config.top.trace_limit = MOST_STEPS;
+    found.config.parts.top.trace_limit = MOST_STEPS;
     plays_through_hub(player, rt, &found.row, &found.config, false);
     plays_through_hub(player, rt, &found.row, &found.config, true);
 }

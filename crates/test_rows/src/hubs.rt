@@ -194,7 +194,7 @@ fn plays_hub<'r, N: Opened + Send + Sync, R: Wait>(
 )
     requires opening { N.opening ≡ fresh_opening (shown config.now) starts.now }
     requires books { N.books ≡ books_of blanks }
-    requires blanks { count_of blanks ≡ config.now.top.shards }
+    requires blanks { count_of blanks ≡ config.now.parts.top.shards }
     requires starts { AreStarts (shown config.now) starts.now }
 {
     let Ok((hub, seat)) = Hub::<Over<'r>, N>::open(player.over, config, starts, blanks) else {
@@ -228,7 +228,7 @@ pub(crate) fn plays_through_hub<'r, R: Wait>(
     player.over.refuse_nth(0);
     let (Ok(starts), Ok(blanks)) = (
         first_starts(player.over, config),
-        Blanks::new(player.over, config.top.shards),
+        Blanks::new(player.over, config.parts.top.shards),
     ) else {
         return player.tell(row.line, "hub", "starts", "want of memory");
     };

@@ -39,8 +39,8 @@ start-requires-clause-configured g c =
     omega (
       arith,
       same,
-      length-map config.realms.items shown_realm,
-      config.realms.ok.0,
+      length-map config.parts.realms.items shown_realm,
+      config.parts.realms.ok.0,
       c.loop-realm-test.true,
       c.len-realm-end.ensures,
     )
@@ -74,7 +74,7 @@ loop-realm-preserved g c =
     let shards = ap (λ (x : ConfigView). c.loop-realm.realm % x.shards) c.requires.config in
     let is : k ≡ c.loop-realm.realm % g.N.Opened.opening.config.shards = c.from.ensures
     ∙ c.shard_of-shard.ensures.value ∙ shards in
-    let start = start_closed g.N.Opened.opening c.args.config.now.top.shards c.args.closed.now.shards.items all k
+    let start = start_closed g.N.Opened.opening c.args.config.now.parts.top.shards c.args.closed.now.shards.items all k
     c.loop-realm.realm c.index.result.now c.start.result
     c.requires.closed at (omega (arith, lt, c.requires.closed.shard_count)) is c.start.ensures.place
     c.start.ensures.ticket in
@@ -96,8 +96,8 @@ returns-clause-starts g c =
     (omega (
       arith,
       same,
-      length-map config.realms.items shown_realm,
-      config.realms.ok.0,
+      length-map config.parts.realms.items shown_realm,
+      config.parts.realms.ok.0,
       c.loop-realm-test.false,
       c.loop-realm.auto.realm-end,
       c.len-realm-end.ensures,
@@ -112,8 +112,8 @@ returns-clause-good g c =
     (omega (
       arith,
       same,
-      length-map config.realms.items shown_realm,
-      config.realms.ok.0,
+      length-map config.parts.realms.items shown_realm,
+      config.parts.realms.ok.0,
       c.loop-realm-test.false,
       c.loop-realm.auto.realm-end,
       c.len-realm-end.ensures,

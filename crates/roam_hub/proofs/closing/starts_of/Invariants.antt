@@ -7,5 +7,5 @@ abbrev pub invariant-loop-realm : goal.invariant-loop-realm
 invariant-loop-realm g l = record {
   first : AreFirstStarts g.N.Opened.opening (all_steps l.closed.fronts.items) l.realm l.starts.items;
   count : vec_len l.starts ≡ l.realm;
-  room : vec_len l.config.realms ≤ vec_capacity l.starts;
+  room : vec_len l.config.parts.realms ≤ vec_capacity l.starts;
 }

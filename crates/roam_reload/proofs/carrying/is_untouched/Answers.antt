@@ -14,21 +14,22 @@ returns-then-is_none c =
     let new = shown c.args.new.now in
     let before = shown_realm c.in-Some.before.now in
     let after = shown_realm c.in-Some-get.after.now in
-    let in_old : c.args.realm < length c.args.old.now.realms.items =
+    let in_old : c.args.realm < length c.args.old.now.parts.realms.items =
     omega (arith, ap length c.deref.ensures.value, c.in-Some.ensures.lookup) in
-    let in_new : c.args.realm < length c.args.new.now.realms.items =
+    let in_new : c.args.realm < length c.args.new.now.parts.realms.items =
     omega (arith, ap length c.deref-2.ensures.value, c.in-Some-get.ensures.lookup) in
-    let at_old : c.in-Some.before.now ≡ get_or c.args.old.now.realms.items c.args.realm c.in-Some.before.now =
+    let at_old : c.in-Some.before.now ≡ get_or c.args.old.now.parts.realms.items c.args.realm c.in-Some.before.now =
     rw (← c.from.ensures, ← c.deref.ensures.value) c.in-Some.ensures.lookup.1 in
-    let at_new : c.in-Some-get.after.now ≡ get_or c.args.new.now.realms.items c.args.realm c.in-Some-get.after.now =
+    let after = c.in-Some-get.after.now in
+    let at_new : after ≡ get_or c.args.new.now.parts.realms.items c.args.realm after =
     rw (← c.from-2.ensures, ← c.deref-2.ensures.value) c.in-Some-get.ensures.lookup.1 in
-    let was = realm_there c.args.old.now.realms.items c.args.realm c.in-Some.before.now in_old at_old in
-    let is = realm_there c.args.new.now.realms.items c.args.realm c.in-Some-get.after.now in_new at_new in
+    let was = realm_there c.args.old.now.parts.realms.items c.args.realm c.in-Some.before.now in_old at_old in
+    let is = realm_there c.args.new.now.parts.realms.items c.args.realm c.in-Some-get.after.now in_new at_new in
     let same = given c.realm_difference.result c.realm_difference.ensures.none
     (none_told c.realm_difference.result c.is_none.result c.is_none.ensures ∙ c.if-is_none.true) in (
       λ yes'.
-          let peers : KeepsPeers (map shown_peer c.args.old.now.peers.items)
-          (map shown_peer c.args.new.now.peers.items) =
+          let peers : KeepsPeers (map shown_peer c.args.old.now.parts.peers.items)
+          (map shown_peer c.args.new.now.parts.peers.items) =
           rw (← c.as_slice.ensures.value, ← c.as_slice-then-is_none.ensures.value)
           (given c.other_peer.result c.other_peer.ensures.none
           (none_told c.other_peer.result c.is_none-then-is_none.result c.is_none-then-is_none.ensures ∙ yes')) in
@@ -43,19 +44,20 @@ returns-then-is_none c =
 -- a key of its table differs
 pub returns-else-is_none : goal.returns-else-is_none
 returns-else-is_none c =
-    let in_old : c.args.realm < length c.args.old.now.realms.items =
+    let in_old : c.args.realm < length c.args.old.now.parts.realms.items =
     omega (arith, ap length c.deref.ensures.value, c.in-Some.ensures.lookup) in
-    let in_new : c.args.realm < length c.args.new.now.realms.items =
+    let in_new : c.args.realm < length c.args.new.now.parts.realms.items =
     omega (arith, ap length c.deref-2.ensures.value, c.in-Some-get.ensures.lookup) in
-    let at_old : c.in-Some.before.now ≡ get_or c.args.old.now.realms.items c.args.realm c.in-Some.before.now =
+    let at_old : c.in-Some.before.now ≡ get_or c.args.old.now.parts.realms.items c.args.realm c.in-Some.before.now =
     rw (← c.from.ensures, ← c.deref.ensures.value) c.in-Some.ensures.lookup.1 in
-    let at_new : c.in-Some-get.after.now ≡ get_or c.args.new.now.realms.items c.args.realm c.in-Some-get.after.now =
+    let after = c.in-Some-get.after.now in
+    let at_new : after ≡ get_or c.args.new.now.parts.realms.items c.args.realm after =
     rw (← c.from-2.ensures, ← c.deref-2.ensures.value) c.in-Some-get.ensures.lookup.1 in (
       λ yes'. absurd (true≢false (sym yes' ∙ c.if-is_none.false)),
       λ kept. absurd (somewhere (shown c.args.old.now) (shown c.args.new.now) c.args.realm
           (shown_realm c.in-Some.before.now) (shown_realm c.in-Some-get.after.now) c.realm_difference.result
-          (realm_there c.args.old.now.realms.items c.args.realm c.in-Some.before.now in_old at_old)
-          (realm_there c.args.new.now.realms.items c.args.realm c.in-Some-get.after.now in_new at_new)
+          (realm_there c.args.old.now.parts.realms.items c.args.realm c.in-Some.before.now in_old at_old)
+          (realm_there c.args.new.now.parts.realms.items c.args.realm c.in-Some-get.after.now in_new at_new)
           c.realm_difference.ensures.some
           (none_told c.realm_difference.result c.is_none.result c.is_none.ensures ∙ c.if-is_none.false) kept),
     )

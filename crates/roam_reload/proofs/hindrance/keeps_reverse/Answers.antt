@@ -16,11 +16,11 @@ returns-then-not-realm c = λ yes'.
     let new = c.args.new.now in
     let realm = c.in-Some.realm.now in
     let before = c.args.old.now.reverse.items in
-    let within : c.args.nth < length new.realms.items =
+    let within : c.args.nth < length new.parts.realms.items =
     omega (arith, ap length c.deref.ensures.value, c.in-Some.ensures.lookup) in
-    let at : realm ≡ get_or new.realms.items c.args.nth realm =
+    let at : realm ≡ get_or new.parts.realms.items c.args.nth realm =
     rw (← c.deref.ensures.value) c.in-Some.ensures.lookup.1 in
-    let there = realm_there new.realms.items c.args.nth realm within at in
+    let there = realm_there new.parts.realms.items c.args.nth realm within at in
     let same : realm.reverse.items ≡ before =
     (whole_list_decides endpoint_eq endpoint_decides realm.reverse.items before).0 (sym c.eq.ensures ∙ yes') in
     subst (λ (l : List Endpoint). find (is_moved (shown new) kind.Reverse) l ≡ None) same

@@ -12,43 +12,44 @@ use Rattle.roam_reload.proofs.laying_out.lay_out.Goals as goal
 pub laid_peers-requires-clause-old : goal.laid_peers-requires-clause-old
 laid_peers-requires-clause-old c =
     rw c.as_slice.ensures.value
-    (peers_differ (map shown_peer c.args.old.now.peers.items) c.args.old.now.distinct_peers)
+    (peers_differ (map shown_peer c.args.old.now.parts.peers.items) c.args.old.now.distinct_peers)
 
 pub laid_peers-requires-clause-new : goal.laid_peers-requires-clause-new
 laid_peers-requires-clause-new c =
-    let same : map shown_peer c.into_parts-auth.result.peers.items ≡ map shown_peer c.args.new.peers.items =
-    ap (λ (v : ConfigView). v.peers) c.into_parts-auth.ensures in
-    rw same (peers_differ (map shown_peer c.args.new.peers.items) c.args.new.distinct_peers)
+    let same : map shown_peer c.into_parts-parts.result.peers.items ≡ map shown_peer c.args.new.parts.peers.items =
+    ap (λ (v : ConfigView). v.peers) c.into_parts-parts.ensures in
+    rw same (peers_differ (map shown_peer c.args.new.parts.peers.items) c.args.new.distinct_peers)
 
 pub laid_realms-requires-clause-old : goal.laid_realms-requires-clause-old
 laid_realms-requires-clause-old c =
-    let old = c.args.old.now in
+    let old = c.args.old.now.parts in
     rw c.as_slice-2.ensures.value
-    (realms_differ (map shown_realm old.realms.items) (map shown_pattern old.reject.items) old.distinct_realms)
+    (realms_differ (map shown_realm old.realms.items) (map shown_pattern old.reject.items)
+    c.args.old.now.distinct_realms)
 
 pub laid_realms-requires-clause-new : goal.laid_realms-requires-clause-new
 laid_realms-requires-clause-new c =
-    let new = c.args.new in
-    let same : map shown_realm c.into_parts-auth.result.realms.items ≡ map shown_realm new.realms.items =
-    ap (λ (v : ConfigView). v.realms) c.into_parts-auth.ensures in
+    let new = c.args.new.parts in
+    let same : map shown_realm c.into_parts-parts.result.realms.items ≡ map shown_realm new.realms.items =
+    ap (λ (v : ConfigView). v.realms) c.into_parts-parts.ensures in
     rw same
-    (realms_differ (map shown_realm new.realms.items) (map shown_pattern new.reject.items) new.distinct_realms)
+    (realms_differ (map shown_realm new.realms.items) (map shown_pattern new.reject.items) c.args.new.distinct_realms)
 
 -- more came than have a number
 pub returns-in_err-have_numbers-clause-err : goal.returns-in_err-have_numbers-clause-err
 returns-in_err-have_numbers-clause-err c = λ _.
     let peers : map shown_peer c.in_ok-peers.peers.items
-    ≡ laid_by same_peer_name gone_peer (map shown_peer c.args.old.now.peers.items)
-    (map shown_peer c.args.new.peers.items) =
+    ≡ laid_by same_peer_name gone_peer (map shown_peer c.args.old.now.parts.peers.items)
+    (map shown_peer c.args.new.parts.peers.items) =
     laid_alike same_peer_name gone_peer _ _ _ _ _ c.in_ok-peers.ensures
     (ap (map shown_peer) c.as_slice.ensures.value)
-    (ap (λ (v : ConfigView). v.peers) c.into_parts-auth.ensures) in
+    (ap (λ (v : ConfigView). v.peers) c.into_parts-parts.ensures) in
     let realms : map shown_realm c.in_ok-realms.realms.items
-    ≡ laid_by same_realm_name gone_realm (map shown_realm c.args.old.now.realms.items)
-    (map shown_realm c.args.new.realms.items) =
+    ≡ laid_by same_realm_name gone_realm (map shown_realm c.args.old.now.parts.realms.items)
+    (map shown_realm c.args.new.parts.realms.items) =
     laid_alike same_realm_name gone_realm _ _ _ _ _ c.in_ok-realms.ensures
     (ap (map shown_realm) c.as_slice-2.ensures.value)
-    (ap (λ (v : ConfigView). v.realms) c.into_parts-auth.ensures) in
+    (ap (λ (v : ConfigView). v.realms) c.into_parts-parts.ensures) in
     elim c.in_err-have_numbers.ensures.err [
       | inl many ↦ inl (omega (
         arith,
@@ -69,9 +70,9 @@ returns-in_err-have_numbers-clause-err c = λ _.
     ]
 
 -- as many as there were at least, and no more than have a number
-pub invariant_of-result : goal.invariant_of-result
-invariant_of-result c =
-    let parts = c.into_parts-auth.result in
+pub invariant_of-parts-2 : goal.invariant_of-parts-2
+invariant_of-parts-2 c =
+    let parts = c.into_parts-parts.result in
     let old = c.args.old.now in
     let peers : length (map shown_peer c.as_slice.result.now)
     ≤ length (map shown_peer c.in_ok-peers.peers.items) =
@@ -90,8 +91,8 @@ invariant_of-result c =
       peer_count = (
         omega (
           arith,
-          old.peer_count,
-          old.peers.ok,
+          old.parts.peer_count,
+          old.parts.peers.ok,
           peers,
           old_peers,
           c.in_ok-peers.peers.ok,
@@ -103,8 +104,8 @@ invariant_of-result c =
       realm_count = (
         omega (
           arith,
-          old.realm_count,
-          old.realms.ok,
+          old.parts.realm_count,
+          old.parts.realms.ok,
           realms,
           old_realms,
           c.in_ok-realms.realms.ok,

@@ -15,7 +15,7 @@ invariant-loop g l = record {
   paused : ArePaused (shown l.configured.config) l.carry.shards.items;
   done : (items : List SavedItem) × HaveServed (opening_with (shown l.initial.configured.config) items)
       (shown l.configured.config) l.carry.shards.items;
-  count : l.configured.config.top.shards ≡ l.initial.configured.config.top.shards;
-  blanks : IfOk l.ready (λ parts. count_of parts.blanks ≡ l.configured.config.top.shards);
+  count : l.configured.config.parts.top.shards ≡ l.initial.configured.config.parts.top.shards;
+  blanks : IfOk l.ready (λ parts. count_of parts.blanks ≡ l.configured.config.parts.top.shards);
   fault : IfErr l.ready IsAfterBinding;
 }

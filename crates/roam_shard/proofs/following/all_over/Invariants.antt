@@ -15,5 +15,5 @@ invariant-loop-realm g l = record {
   left : into_iter_len l.realm-iterator ≡ length (into_iter_items l.realm-iterator);
   count : l.index + length (into_iter_items l.realm-iterator) ≡ length l.fn.realms.items;
   len : vec_len l.numbers ≡ l.index;
-  room : vec_len l.change.to.now.realms ≤ vec_capacity l.numbers;
+  room : vec_len l.change.to.now.parts.realms ≤ vec_capacity l.numbers;
 }

@@ -14,13 +14,13 @@ pub new-old-requires : goal.new-old-requires
 new-old-requires g c =
     let config = c.args.change.from.now in
     let there = here_within (shown config) c.args.realm c.requires.carried.carried.was_here in
-    omega (arith, there, length-map config.realms.items shown_realm, config.realms.ok.0)
+    omega (arith, there, length-map config.parts.realms.items shown_realm, config.parts.realms.ok.0)
 
 pub new-new-requires : goal.new-new-requires
 new-new-requires g c =
     let config = c.args.change.to.now in
     let there = here_within (shown config) c.args.realm c.requires.carried.carried.is_here in
-    omega (arith, there, length-map config.realms.items shown_realm, config.realms.ok.0)
+    omega (arith, there, length-map config.parts.realms.items shown_realm, config.parts.realms.ok.0)
 
 pub carry_over-requires-clause-index : goal.carry_over-requires-clause-index
 carry_over-requires-clause-index g c =

@@ -29,7 +29,7 @@ returns-then-is_refused-clause-declined g c =
       disagreed = why.0;
       told = told;
       some = something_lost (shown c.args.old.now) (shown c.args.new.now) c.args.shards.now.items losses
-          c.args.old.now.top.shards_range.0 c.requires.paused told why.1;
+          c.args.old.now.parts.top.shards_range.0 c.requires.paused told why.1;
     }
 
 pub returns-clause-ok : goal.returns-clause-ok

@@ -52,7 +52,7 @@ returns-clause-still g c = c.loop-realm.invariant.looked.still
 
 pub returns-clause-losses : goal.returns-clause-losses
 returns-clause-losses g c =
-    let realms = c.args.old.now.realms in
+    let realms = c.args.old.now.parts.realms in
     all_looked_at (shown c.args.old.now) (shown c.args.new.now) c.args.shards.now.items c.loop-realm.shards.items
     c.loop-realm.losses.items c.loop-realm.realm c.loop-realm.invariant.looked (omega (
       arith,

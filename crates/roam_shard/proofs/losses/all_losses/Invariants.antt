@@ -7,5 +7,5 @@ abbrev pub invariant-loop-realm : goal.invariant-loop-realm
 invariant-loop-realm g l = record {
   looked : AreLossesSoFar (shown l.old) (shown l.new) l.fn.shards.items l.shards.items l.losses.items l.realm;
   len : vec_len l.losses ≡ l.realm;
-  room : vec_len l.old.realms ≤ vec_capacity l.losses;
+  room : vec_len l.old.parts.realms ≤ vec_capacity l.losses;
 }

@@ -13,13 +13,13 @@ loop-realm-preserved g c =
 
 pub returns-clause-starts : goal.returns-clause-starts
 returns-clause-starts g c =
-    let realms = length-map c.args.config.now.realms.items shown_realm in
+    let realms = length-map c.args.config.now.parts.realms.items shown_realm in
     c.loop-realm.invariant
     ∙ ap (λ n. replicate n first_start)
     (omega (
       arith,
       realms,
-      c.args.config.now.realms.ok.0,
+      c.args.config.now.parts.realms.ok.0,
       c.loop-realm-test.false,
       c.loop-realm.auto._realm-end,
       c.len-realm-end.ensures,
@@ -27,13 +27,13 @@ returns-clause-starts g c =
 
 pub returns-clause-good : goal.returns-clause-good
 returns-clause-good g c =
-    let realms = length-map c.args.config.now.realms.items shown_realm in
+    let realms = length-map c.args.config.now.parts.realms.items shown_realm in
     rw (c.loop-realm.invariant)
     (first_good (shown c.args.config.now) c.loop-realm._realm
     (omega (
       arith,
       realms,
-      c.args.config.now.realms.ok.0,
+      c.args.config.now.parts.realms.ok.0,
       c.loop-realm-test.false,
       c.loop-realm.auto._realm-end,
       c.len-realm-end.ensures,

@@ -14,12 +14,12 @@ use Rattle.roam_shard.proofs.rooms.room_of_shard.Goals as goal
 pub overflow_cast-realm : goal.overflow_cast-realm
 overflow_cast-realm g c =
     let config = c.args.opening.now.config.now in
-    let realms = length-map config.realms.items shown_realm in
+    let realms = length-map config.parts.realms.items shown_realm in
     omega (
       arith,
       realms,
-      config.realms.ok.0,
-      config.realm_count,
+      config.parts.realms.ok.0,
+      config.parts.realm_count,
       c.requires.count,
       c.loop-realm-test.true,
     )

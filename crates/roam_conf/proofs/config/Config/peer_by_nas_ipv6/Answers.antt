@@ -13,5 +13,5 @@ pub returns-clause-bound : goal.returns-clause-bound
 unfolding peer_with_nas_ipv6
 returns-clause-bound c =
     first_peer_bound (λ (peer : PeerView). same_if_there peer.nas_ipv6 (Some c.args.ip.now))
-    c.args.self.now.peers.items _ c.owner_of.result (omega (arith, c.args.self.now.peers.ok))
+    c.args.self.now.parts.peers.items _ c.owner_of.result (omega (arith, c.args.self.now.parts.peers.ok))
     (c.owner_of.ensures ∙ c.args.self.now.targets_noted.nas_ipv6s c.args.ip.now)

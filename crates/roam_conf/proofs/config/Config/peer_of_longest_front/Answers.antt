@@ -9,7 +9,7 @@ use Rattle.roam_conf.proofs.config.Config.peer_of_longest_front.Goals as goal
 -- nobody has this front
 pub loop-i-preserved : goal.loop-i-preserved
 loop-i-preserved c =
-    let peers = map shown_peer c.args.self.now.peers.items in
+    let peers = map shown_peer c.args.self.now.parts.peers.items in
     let name = c.args.identifier.now in
     let n = length name - c.loop-i.i in
     let k = length name - (c.loop-i.i + 1) in

@@ -14,22 +14,23 @@ loop-realm-preserved g c =
 -- the loop came to the last realm
 pub invariant_of-result : goal.invariant_of-result
 invariant_of-result g c =
-    let realms = length-map c.args.config.now.realms.items shown_realm in
+    let realms = length-map c.args.config.now.parts.realms.items shown_realm in
     record {
       each = c.loop-realm.invariant.each;
       count = omega (
         arith,
         realms,
-        c.args.config.now.realms.ok.0,
-        c.args.config.now.realm_count,
+        c.args.config.now.parts.realms.ok.0,
+        c.args.config.now.parts.realm_count,
         c.loop-realm.invariant.number,
         c.len-count.ensures,
       );
-      some_shard = c.args.config.now.top.shards_range.0;
+      some_shard = c.args.config.now.parts.top.shards_range.0;
     }
 
 pub returns-clause-states : goal.returns-clause-states
 returns-clause-states g c =
-    let realms = length-map c.args.config.now.realms.items shown_realm in
+    let parts = c.args.config.now.parts in
+    let realms = length-map parts.realms.items shown_realm in
     all-fresh (shown c.args.config.now) c.loop-realm.realm c.loop-realm.books.items c.loop-realm.invariant
-    (omega (arith, realms, c.args.config.now.realms.ok.0, c.args.config.now.realm_count, c.len-count.ensures))
+    (omega (arith, realms, parts.realms.ok.0, parts.realm_count, c.len-count.ensures))

@@ -64,16 +64,16 @@ returns-in_err-room-clause-waits g c = λ e.
 pub has_only_done-requires : goal.has_only_done-requires
 has_only_done-requires g c =
     let config = c.self.inside.config.now in
-    let realms = length-map config.realms.items shown_realm in
+    let realms = length-map config.parts.realms.items shown_realm in
     let books = ap (λ (l : List BookView). length l) c.deref.ensures.value in
-    omega (arith, realms, config.realms.ok.0, config.realm_count, c.self.invariant.count, books)
+    omega (arith, realms, config.parts.realms.ok.0, config.parts.realm_count, c.self.invariant.count, books)
 
 pub room_of_shard-requires : goal.room_of_shard-requires
 room_of_shard-requires g c =
     let config = c.self.inside.config.now in
-    let realms = length-map config.realms.items shown_realm in
+    let realms = length-map config.parts.realms.items shown_realm in
     let books = ap (λ (l : List BookView). length l) c.deref-2.ensures.value in
-    omega (arith, realms, config.realms.ok.0, config.realm_count, c.self.invariant.count, books)
+    omega (arith, realms, config.parts.realms.ok.0, config.parts.realm_count, c.self.invariant.count, books)
 
 -- and a state for each
 pub returns-in_err-room-clause-whole : goal.returns-in_err-room-clause-whole

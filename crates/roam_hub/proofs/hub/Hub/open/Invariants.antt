@@ -13,5 +13,5 @@ invariant-loop-blank g l = record {
   unseen : entries_of l.fronts.items ≡ replicate l.shard [];
   of_shards : AreOfShards l.fronts.items;
   left : into_iter_len l.blank-iterator ≡ length (into_iter_items l.blank-iterator);
-  count : l.shard + length (into_iter_items l.blank-iterator) ≡ l.config.top.shards;
+  count : l.shard + length (into_iter_items l.blank-iterator) ≡ l.config.parts.top.shards;
 }

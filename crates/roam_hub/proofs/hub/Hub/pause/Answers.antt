@@ -22,7 +22,7 @@ taken_apart-requires-clause-fronts g c =
 
 pub starts_of-starts-requires-clause-room : goal.starts_of-starts-requires-clause-room
 starts_of-starts-requires-clause-room g c =
-    let realms = c.args.self.config.now.realms in
+    let realms = c.args.self.config.now.parts.realms in
     let same = ap (λ (x : ConfigView). length x.realms) c.args.self.config_is in
     has_room (length g.N.Opened.opening.config.realms) _ _
     (omega (arith, same, length-map realms.items shown_realm, realms.ok.0)) c.args.room.start_room
@@ -59,7 +59,7 @@ invariant_of-report g c =
     let hub = c.args.self in
     let shards = ap (λ (x : ConfigView). x.shards) hub.config_is in
     record {
-      few_shards = omega (arith, few, hub.count, shards, hub.config.now.top.shards_range.1);
+      few_shards = omega (arith, few, hub.count, shards, hub.config.now.parts.top.shards_range.1);
       all_shards = few ∙ hub.count;
       of_shards = c.in_ok-closed.ensures.of_shards;
       whole = c.in_ok-closed.ensures.whole;

@@ -7,7 +7,7 @@ use Rattle.roam_hub.proofs.pause_room.PauseRoom.new.Goals as goal
 
 pub invariant_of-result : goal.invariant_of-result
 invariant_of-result g c =
-    let realms = c.args.config.now.realms in
+    let realms = c.args.config.now.parts.realms in
     let same = ap (λ (x : ConfigView). length x.realms) c.requires in
     let count = ap (λ (x : ConfigView). x.shards) c.requires in
     let many = length-map realms.items shown_realm in

@@ -11,12 +11,12 @@ use Rattle.roam_shard.proofs.paused.Paused.follow.Goals as goal
 
 pub all_over-requires-clause-count : goal.all_over-requires-clause-count
 all_over-requires-clause-count g c =
-    let realms = c.args.new.now.realms in
+    let realms = c.args.new.now.parts.realms in
     omega (arith, c.requires.ready.count, length-map realms.items shown_realm, realms.ok.0)
 
 pub all_over-requires-clause-room : goal.all_over-requires-clause-room
 all_over-requires-clause-room g c =
-    let realms = c.args.new.now.realms in
+    let realms = c.args.new.now.parts.realms in
     let room = c.requires.ready.room in
     omega (arith, room, length-map realms.items shown_realm, realms.ok.0)
 
@@ -29,7 +29,7 @@ all_over-requires-clause-within g c =
     let old = shown c.args.old.now in
     let new = shown c.args.new.now in
     let p = c.args.self.now in
-    let realms = c.args.new.now.realms in
+    let realms = c.args.new.now.parts.realms in
     let cleared = cleared_to old new p.shard (entries_in p.entries) (entries_in c.clear_others.new.entries)
     (vec_len realms) (length new.realms) (omega (arith, length-map realms.items shown_realm, realms.ok.0))
     c.clear_others.ensures.stay c.clear_others.ensures.gone c.clear_others.ensures.lists in
@@ -43,7 +43,7 @@ all_over-requires-clause-can g c =
     let old = shown c.args.old.now in
     let new = shown c.args.new.now in
     let p = c.args.self.now in
-    let realms = c.args.new.now.realms in
+    let realms = c.args.new.now.parts.realms in
     let cleared = cleared_to old new p.shard (entries_in p.entries) (entries_in c.clear_others.new.entries)
     (vec_len realms) (length new.realms) (omega (arith, length-map realms.items shown_realm, realms.ok.0))
     c.clear_others.ensures.stay c.clear_others.ensures.gone c.clear_others.ensures.lists in
@@ -57,7 +57,7 @@ returns-clause-stands g c =
     let old = shown c.args.old.now in
     let new = shown c.args.new.now in
     let p = c.args.self.now in
-    let realms = c.args.new.now.realms in
+    let realms = c.args.new.now.parts.realms in
     let cleared = cleared_to old new p.shard (entries_in p.entries) (entries_in c.clear_others.new.entries)
     (vec_len realms) (length new.realms) (omega (arith, length-map realms.items shown_realm, realms.ok.0))
     c.clear_others.ensures.stay c.clear_others.ensures.gone c.clear_others.ensures.lists in
@@ -73,7 +73,7 @@ returns-clause-follow g c =
     let old = shown c.args.old.now in
     let new = shown c.args.new.now in
     let p = c.args.self.now in
-    let realms = c.args.new.now.realms in
+    let realms = c.args.new.now.parts.realms in
     let cleared = cleared_to old new p.shard (entries_in p.entries) (entries_in c.clear_others.new.entries)
     (vec_len realms) (length new.realms) (omega (arith, length-map realms.items shown_realm, realms.ok.0))
     c.clear_others.ensures.stay c.clear_others.ensures.gone c.clear_others.ensures.lists in

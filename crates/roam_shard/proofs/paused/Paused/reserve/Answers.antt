@@ -31,7 +31,7 @@ returns-in_err-realms-clause-still g c =
 
 pub loop-realm-init : goal.loop-realm-init
 loop-realm-init g c =
-    let realms = c.args.new.now.realms in
+    let realms = c.args.new.now.parts.realms in
     record {
       still = more_realms_still (shown c.args.old.now) c.args.self.now c.add_realms.new.self c.requires.stands
           c.add_realms.ensures.entries
@@ -77,7 +77,7 @@ returns-clause-ready g c =
     let old = shown c.args.old.now in
     let new = shown c.args.new.now in
     let inv = c.loop-realm.invariant in
-    let realms = c.args.new.now.realms in
+    let realms = c.args.new.now.parts.realms in
     let number = inv.ready.number in
     record {
       count = omega (

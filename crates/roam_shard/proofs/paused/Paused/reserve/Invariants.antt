@@ -10,5 +10,5 @@ invariant-loop-realm g l = record {
   ready : AreReady (shown l.old) (shown l.new) l.fn.self.shard l.self.numbers.items l.realms.items l.realm;
   kept : length (shown l.new).realms ≤ length l.self.entries;
   len : vec_len l.realms ≡ l.realm;
-  room : vec_len l.new.realms ≤ vec_capacity l.realms;
+  room : vec_len l.new.parts.realms ≤ vec_capacity l.realms;
 }

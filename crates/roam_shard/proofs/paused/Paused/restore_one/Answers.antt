@@ -18,7 +18,7 @@ use Rattle.roam_shard.proofs.paused.Paused.restore_one.Goals as goal
 
 pub new-requires : goal.new-requires
 new-requires g c =
-    let realms = c.args.config.now.realms in
+    let realms = c.args.config.now.parts.realms in
     omega (
       arith,
       c.from.ensures,

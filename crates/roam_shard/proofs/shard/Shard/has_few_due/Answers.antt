@@ -11,7 +11,8 @@ pub all_few-requires : goal.all_few-requires
 all_few-requires g c =
     let config = c.self.inside.opening.config.now in
     let same = ap length c.deref.ensures.value in
-    omega (arith, c.self.invariant.count, length-map config.realms.items shown_realm, config.realm_count.1, same)
+    let parts = config.parts in
+    omega (arith, c.self.invariant.count, length-map parts.realms.items shown_realm, parts.realm_count.1, same)
 
 pub returns-clause-few : goal.returns-clause-few
 returns-clause-few g c = λ yes.

@@ -10,7 +10,8 @@ pub any_due-requires : goal.any_due-requires
 any_due-requires g c =
     let config = c.self.inside.opening.config.now in
     let same = ap length c.deref.ensures.value in
-    omega (arith, c.self.invariant.count, length-map config.realms.items shown_realm, config.realm_count.1, same)
+    let parts = config.parts in
+    omega (arith, c.self.invariant.count, length-map parts.realms.items shown_realm, parts.realm_count.1, same)
 
 pub returns : goal.returns
 returns g c = (

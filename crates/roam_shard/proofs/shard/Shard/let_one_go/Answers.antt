@@ -17,15 +17,15 @@ overflow_cast-realm g c =
     let i = c.self.inside in
     let count = shard_count (shown_opening i.opening) i.entries i.numbers.items c.args.self.now
     c.self.view_is in
-    let realms = length-map i.opening.config.now.realms.items shown_realm in
+    let realms = length-map i.opening.config.now.parts.realms.items shown_realm in
     omega (
       arith,
       count,
       c.requires.there,
       realms,
       c.self.invariant.count,
-      i.opening.config.now.realms.ok.0,
-      i.opening.config.now.realm_count,
+      i.opening.config.now.parts.realms.ok.0,
+      i.opening.config.now.parts.realm_count,
     )
 
 pub new-settings-requires : goal.new-settings-requires
@@ -33,14 +33,14 @@ new-settings-requires g c =
     let i = c.self.inside in
     let count = shard_count (shown_opening i.opening) i.entries i.numbers.items c.args.self.now
     c.self.view_is in
-    let realms = length-map i.opening.config.now.realms.items shown_realm in
+    let realms = length-map i.opening.config.now.parts.realms.items shown_realm in
     omega (
       arith,
       count,
       c.requires.there,
       realms,
       c.self.invariant.count,
-      i.opening.config.now.realms.ok.0,
+      i.opening.config.now.parts.realms.ok.0,
     )
 
 pub index_mut-requires : goal.index_mut-requires

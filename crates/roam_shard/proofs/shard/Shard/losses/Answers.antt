@@ -18,14 +18,14 @@ new-old-requires g c =
     let i = c.self.inside in
     let lt = slice_get_within c.deref.result.now c.args.realm _ c.in-Some.ensures.some in
     let same = ap (λ (ns : List _). length ns) c.deref.ensures.value in
-    let count = length-map i.opening.config.now.realms.items shown_realm in
-    omega (arith, lt, same, count, c.self.invariant.count, i.opening.config.now.realms.ok.0)
+    let count = length-map i.opening.config.now.parts.realms.items shown_realm in
+    omega (arith, lt, same, count, c.self.invariant.count, i.opening.config.now.parts.realms.ok.0)
 
 pub new-new-requires : goal.new-new-requires
 new-new-requires g c =
     let config = c.args.next.now in
     let there = here_within (shown config) c.args.realm (c.if-not-is_carried.ensures.0 refl).is_here in
-    omega (arith, there, length-map config.realms.items shown_realm, config.realms.ok.0)
+    omega (arith, there, length-map config.parts.realms.items shown_realm, config.parts.realms.ok.0)
 
 pub all_of-requires : goal.all_of-requires
 all_of-requires g c =

@@ -12,7 +12,7 @@ use Rattle.roam_shard.proofs.shard.Shard.new.Goals as goal
 pub invariant_of-result : goal.invariant_of-result
 invariant_of-result g c =
     let config = c.args.config.now in
-    let realms = length-map config.realms.items shown_realm in
+    let realms = length-map config.parts.realms.items shown_realm in
     let copied = c.in_ok-starts.ensures.items in
     let opened = subst (λ (ss : List Start).
     AreOpened (shown config) c.args.shard ss (length ss) c.in_ok-numbers.numbers.items)
@@ -26,7 +26,7 @@ invariant_of-result g c =
           c.in_ok-starts.starts.items;
     }) c.in_ok-entries.entries c.in_ok-numbers.numbers.items
     (length c.in_ok-starts.starts.items) opened refl starts
-    (omega (arith, realms, config.realms.ok.0, c.in_ok-entries.ensures.realms, c.len.ensures))
+    (omega (arith, realms, config.parts.realms.ok.0, c.in_ok-entries.ensures.realms, c.len.ensures))
     c.in_ok-entries.ensures.entries c.requires.shard
 
 pub returns-clause-states : goal.returns-clause-states

@@ -17,8 +17,8 @@ new-settings-requires g c =
     let i = c.self.inside in
     let lt = slice_get_within c.deref.result.now c.args.realm _ c.in-Some.ensures.some in
     let same = ap (λ (ns : List _). length ns) c.deref.ensures.value in
-    let count = length-map i.opening.config.now.realms.items shown_realm in
-    omega (arith, lt, same, count, c.self.invariant.count, i.opening.config.now.realms.ok.0)
+    let count = length-map i.opening.config.now.parts.realms.items shown_realm in
+    omega (arith, lt, same, count, c.self.invariant.count, i.opening.config.now.parts.realms.ok.0)
 
 pub returns : goal.returns
 returns g c =

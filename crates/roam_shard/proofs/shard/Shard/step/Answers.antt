@@ -24,8 +24,8 @@ new-settings-requires g c =
     let realms =
     event_realm c.args.self.now.opening.config (shown_job c.args.job.now) c.requires.event in
     let same = ap (λ (v : ShardView). length v.opening.config.realms) c.self.view_is in
-    let count = length-map c.self.inside.opening.config.now.realms.items shown_realm in
-    omega (arith, realms, same, count, c.self.inside.opening.config.now.realms.ok.0)
+    let count = length-map c.self.inside.opening.config.now.parts.realms.items shown_realm in
+    omega (arith, realms, same, count, c.self.inside.opening.config.now.parts.realms.ok.0)
 
 pub index_mut-requires : goal.index_mut-requires
 index_mut-requires g c =

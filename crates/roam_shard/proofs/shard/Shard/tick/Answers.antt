@@ -68,18 +68,18 @@ pub any_due-requires : goal.any_due-requires
 any_due-requires g c =
     let i = c.self.inside in
     let config = i.opening.config.now in
-    let realms = length-map config.realms.items shown_realm in
+    let realms = length-map config.parts.realms.items shown_realm in
     let same = ap (λ ns. length ns) c.deref.ensures.value in
-    omega (arith, realms, same, config.realms.ok.0, config.realm_count, c.self.invariant.count)
+    omega (arith, realms, same, config.parts.realms.ok.0, config.parts.realm_count, c.self.invariant.count)
 
 -- the done ones go
 pub all_done-requires : goal.all_done-requires
 all_done-requires g c =
     let i = c.self.inside in
     let config = i.opening.config.now in
-    let realms = length-map config.realms.items shown_realm in
+    let realms = length-map config.parts.realms.items shown_realm in
     let same = ap (λ ns. length ns) c.deref-2.ensures.value in
-    omega (arith, realms, same, config.realms.ok.0, config.realm_count, c.self.invariant.count)
+    omega (arith, realms, same, config.parts.realms.ok.0, config.parts.realm_count, c.self.invariant.count)
 
 pub let_go-requires-clause-done : goal.let_go-requires-clause-done
 let_go-requires-clause-done g c =

@@ -16,13 +16,13 @@ overflow_cast-realm g c =
     let count = shard_count (shown_opening i.opening) i.entries i.numbers.items c.args.self.now
     c.self.view_is in
     let lt : c.args.realm < length i.numbers.items = omega (arith, count, c.requires.there) in
-    let realms = length-map i.opening.config.now.realms.items shown_realm in
+    let realms = length-map i.opening.config.now.parts.realms.items shown_realm in
     omega (
       arith,
       realms,
       c.self.invariant.count,
-      i.opening.config.now.realms.ok.0,
-      i.opening.config.now.realm_count,
+      i.opening.config.now.parts.realms.ok.0,
+      i.opening.config.now.parts.realm_count,
     )
 
 pub new-settings-requires : goal.new-settings-requires
@@ -31,8 +31,8 @@ new-settings-requires g c =
     let count = shard_count (shown_opening i.opening) i.entries i.numbers.items c.args.self.now
     c.self.view_is in
     let lt : c.args.realm < length i.numbers.items = omega (arith, count, c.requires.there) in
-    let realms = length-map i.opening.config.now.realms.items shown_realm in
-    omega (arith, realms, c.self.invariant.count, i.opening.config.now.realms.ok.0)
+    let realms = length-map i.opening.config.now.parts.realms.items shown_realm in
+    omega (arith, realms, c.self.invariant.count, i.opening.config.now.parts.realms.ok.0)
 
 pub index_mut-requires : goal.index_mut-requires
 index_mut-requires g c =

@@ -18,11 +18,11 @@ invariant_of-result g c =
     all_sharded (shown c.args.config.now) c.args.starts.now c.loop-shard.shard
     c.loop-shard.shards.items c.loop-shard.invariant
     (omega (arith, c.loop-shard-test.false, c.loop-shard.auto.shard-end))
-    c.args.config.now.top.shards_range.0
+    c.args.config.now.parts.top.shards_range.0
 
 pub returns-clause-states : goal.returns-clause-states
 returns-clause-states g c =
     all_opened (shown c.args.config.now) c.args.starts.now c.loop-shard.shard
     c.loop-shard.shards.items c.loop-shard.invariant
     (omega (arith, c.loop-shard-test.false, c.loop-shard.auto.shard-end))
-    c.args.config.now.top.shards_range.0 c.requires.count
+    c.args.config.now.parts.top.shards_range.0 c.requires.count

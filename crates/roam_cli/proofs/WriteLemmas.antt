@@ -1,1 +1,0 @@
--- Octets that are written one after the other.
