@@ -19,4 +19,4 @@ pub const SECRET: Key = Key {
 };
 
 /// All of them.
-pub static KEYS: [Key; 2] = [IP, SECRET];
+pub const KEYS: [Key; 2] = [IP, SECRET];

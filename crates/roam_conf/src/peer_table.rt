@@ -129,7 +129,7 @@ pub const REPLY_WITHOUT: Key = Key {
 };
 
 /// All of them.
-pub static KEYS: [Key; 15] = [
+pub const KEYS: [Key; 15] = [
     NAME,
     IP,
     SECRET,

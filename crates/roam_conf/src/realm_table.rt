@@ -202,7 +202,7 @@ pub const COA_CLIENT: Key = Key {
 };
 
 /// All of them.
-pub static KEYS: [Key; 24] = [
+pub const KEYS: [Key; 24] = [
     NAME,
     ALSO,
     PEERS,

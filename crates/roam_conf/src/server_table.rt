@@ -36,4 +36,4 @@ pub const REQUIRE_SEAL: Key = Key {
 };
 
 /// All of them.
-pub static KEYS: [Key; 4] = [AUTH, ACCT, SECRET, REQUIRE_SEAL];
+pub const KEYS: [Key; 4] = [AUTH, ACCT, SECRET, REQUIRE_SEAL];

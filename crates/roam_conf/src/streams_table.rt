@@ -61,7 +61,7 @@ pub const SERVER: Key = Key {
 };
 
 /// Those of the file itself.
-pub static KEYS: [Key; 7] = [TAKE, AUTH, ACCT, MOST, MOST_OF_ONE, IDLE, SERVER];
+pub const KEYS: [Key; 7] = [TAKE, AUTH, ACCT, MOST, MOST_OF_ONE, IDLE, SERVER];
 
 pub const AT: Key = Key {
     name: "at",
@@ -88,4 +88,4 @@ pub const SILENCE: Key = Key {
 };
 
 /// Those of a table `[[server]]`.
-pub static SERVER_KEYS: [Key; 3] = [AT, REVERSE, SILENCE];
+pub const SERVER_KEYS: [Key; 3] = [AT, REVERSE, SILENCE];

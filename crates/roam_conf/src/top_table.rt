@@ -183,7 +183,7 @@ pub const REALM: Key = Key {
 };
 
 /// All of them.
-pub static KEYS: [Key; 22] = [
+pub const KEYS: [Key; 22] = [
     SHARDS,
     SEED,
     AUTH,

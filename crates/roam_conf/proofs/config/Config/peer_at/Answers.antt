@@ -9,7 +9,7 @@ returns-in-Some c =
     omega (arith, ap length c.deref.ensures.value, c.in-Some.ensures.lookup) in
     let is : c.in-Some.peer.now ≡ get_or c.args.self.now.parts.peers.items c.args.peer c.in-Some.peer.now =
     rw (← c.from.ensures, ← c.deref.ensures.value) c.in-Some.ensures.lookup.1 in
-    sym (peer_shown c.args.self.now.peers.items c.args.peer c.in-Some.peer.now within is)
+    sym (peer_shown c.args.self.now.parts.peers.items c.args.peer c.in-Some.peer.now within is)
 
 -- the peer isn't configured
 pub returns-in-None : goal.returns-in-None
