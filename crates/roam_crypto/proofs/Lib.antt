@@ -21,3 +21,6 @@ pub mod SaltedTestLemmas
 pub mod OctetLemmas
 pub mod HidingFacts
 pub mod PacketAnewLemmas
+pub mod WordLemmas
+pub mod RandomOctetLemmas
+mod StandardFacts

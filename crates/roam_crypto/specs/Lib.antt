@@ -17,3 +17,8 @@ pub mod SaltedFunctions
 pub mod Salted
 pub mod SaltedLaws
 pub mod PacketAnew
+pub mod Keyed
+pub mod RandomWords
+pub mod RandomLaws
+-- Words that no contract of a public call names: those of private functions and of invariants.
+pub mod Private

@@ -7,8 +7,8 @@ use Rattle.roam_wire.specs.Reading.{packet_of}
 use Rattle.roam_wire.specs.declared.code.TheConstants.{ACCESS_REQUEST}
 use Rattle.roam_wire.proofs.PacketLemmas.{length-packet_text, IsPacketText-packet_text}
 use Rattle.roam_crypto.specs.Authenticators.{AreSixteenOctets}
-use Rattle.roam_random.specs.RandomWords.{request_authenticator_at, word_octets}
-use Rattle.roam_random.proofs.OctetLemmas.{authenticator-octets}
+use Rattle.roam_crypto.specs.RandomWords.{request_authenticator_at, word_octets}
+use Rattle.roam_crypto.proofs.RandomOctetLemmas.{authenticator-octets}
 use Rattle.roam_forward.specs.Forwarded.{CanBeForwarded, Forwarding, forwarded}
 use Rattle.roam_forward.specs.Shaped.{HasShortName, Shaping, shaped}
 use Rattle.roam_forward.proofs.ShapedLemmas.{CanBeForwarded-shaped, code-shaped}

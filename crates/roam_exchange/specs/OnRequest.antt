@@ -17,7 +17,7 @@ use Rattle.roam_reply.specs.Nak.{nak}
 use Rattle.roam_admission.specs.Admission.{PlainOut}
 use Rattle.roam_sessions.specs.Causes.{cause}
 use Rattle.roam_sessions.specs.Target as reverse
-use Rattle.roam_random.specs.RandomWords.{next_position, request_authenticator_at}
+use Rattle.roam_crypto.specs.RandomWords.{next_position, request_authenticator_at}
 use Rattle.roam_pending.specs.declared.key.Key.{Key}
 use Rattle.roam_pending.specs.PlainEntry.{PlainRequest, PlainStanding, PlainEntry, waiting, done}
 use Rattle.roam_pending.specs.EntryList.{find_client, first_done, without, without_client, put}

@@ -2,12 +2,12 @@
 
 ghost use Rattle.std.specs.Prelude.{◌≡◌};
 ghost use Rattle.roam_conf.specs.Shown.{shown};
-ghost use Rattle.roam_random.specs.Keyed.{keyed};
+ghost use Rattle.roam_crypto.specs.Keyed.{keyed};
 ghost use Rattle.roam_realm.specs.declared.hashing.TheConstants.{HASH_STREAM};
-ghost use Rattle.roam_random.specs.RandomWords.{request_authenticator_at};
+ghost use Rattle.roam_crypto.specs.RandomWords.{request_authenticator_at};
 
 use roam_conf::Config;
-use roam_random::{HashKey, request_authenticator};
+use roam_crypto::{HashKey, request_authenticator};
 
 /// The stream of random words from which the key of hashes is: no realm's, whose streams are their indexes.
 pub const HASH_STREAM: u64 = 1 << 32;

@@ -13,9 +13,8 @@ ghost use Rattle.roam_realm.specs.RealmConfig.{seal_required, IsLink, IsRequeste
 
 use crate::hashing::hash_key;
 use roam_conf::{Address, Config, Link, Peer, Realm, Server};
-use roam_crypto::Secret;
+use roam_crypto::{HashKey, Secret};
 use roam_pending::Requester;
-use roam_random::HashKey;
 use roam_sessions::{Sessions, route_of};
 use roam_wire::View;
 use std::alloc::Allocator;

@@ -14,7 +14,7 @@ use crate::buckets::{Buckets, Places};
 use crate::ends::Ends;
 use crate::row::Row;
 use indexmap::IndexMap;
-use roam_random::HashKey;
+use roam_crypto::HashKey;
 use roam_wire::NoMemory;
 use std::alloc::Allocator;
 use std::hash::{BuildHasherDefault, FoldHasher};

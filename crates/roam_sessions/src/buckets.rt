@@ -2,7 +2,7 @@
 
 ghost use Rattle.std.specs.Prelude.{◌<◌};
 
-use roam_random::HashKey;
+use roam_crypto::HashKey;
 
 /// The number of buckets, and the key of the hash that picks one. Peers pick what stands in a row, so it is keyed.
 #[derive(Clone, Copy)]

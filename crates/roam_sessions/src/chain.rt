@@ -18,7 +18,7 @@ use crate::parts::SessionParts;
 use crate::session::SessionArray;
 use crate::session_map::SessionMap;
 use indexmap::IndexMap;
-use roam_random::HashKey;
+use roam_crypto::HashKey;
 use roam_wire::NoMemory;
 use std::alloc::Allocator;
 

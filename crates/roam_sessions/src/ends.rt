@@ -11,7 +11,7 @@ ghost use Rattle.roam_sessions.specs.declared.neighbours.Beside.{Beside};
 use crate::kept_row::{KeptRow, SoughtRow};
 use crate::neighbours::Beside;
 use indexmap::IndexMap;
-use roam_random::HashKey;
+use roam_crypto::HashKey;
 use roam_wire::NoMemory;
 use std::alloc::Allocator;
 

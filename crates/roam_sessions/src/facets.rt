@@ -27,7 +27,7 @@ use crate::row::Row;
 use crate::session_map::{SessionMap, put, take};
 use crate::session_rows::mask;
 use indexmap::IndexMap;
-use roam_random::HashKey;
+use roam_crypto::HashKey;
 use roam_wire::NoMemory;
 use std::alloc::Allocator;
 

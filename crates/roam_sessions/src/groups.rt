@@ -8,7 +8,7 @@ ghost use Rattle.roam_sessions.specs.Maps.{HasRoom, groups_of};
 use crate::ends::{GroupEnds, ends_behind, ends_left, ends_of, newest_of, note, set};
 use crate::neighbours::{Beside, Neighbours, put, set_newer, set_older, take};
 use indexmap::IndexMap;
-use roam_random::HashKey;
+use roam_crypto::HashKey;
 use roam_wire::NoMemory;
 use std::alloc::Allocator;
 

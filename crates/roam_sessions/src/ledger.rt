@@ -13,7 +13,7 @@ use crate::open_session::NewSession;
 use crate::session::{Change, NasArray, PreparedChange, SessionArray};
 use crate::short_copies::first_short;
 use crate::table::Table;
-use roam_random::HashKey;
+use roam_crypto::HashKey;
 use roam_wire::attribute_type::ACCT_SESSION_ID;
 use roam_wire::{NoMemory, View};
 use std::alloc::Allocator;

@@ -22,7 +22,7 @@ use crate::chain::Chain;
 use crate::ended::Ended;
 use crate::open_session::NewSession;
 use crate::parts::SessionParts;
-use roam_random::HashKey;
+use roam_crypto::HashKey;
 use roam_wire::NoMemory;
 use std::alloc::Allocator;
 

@@ -5,7 +5,7 @@ use Rattle.slab.specs.Slab.{Slab}
 use Rattle.indexmap.specs.IndexMap.{IndexMap}
 use Rattle.roam_wire.specs.Numbered.{PutsAt}
 use Rattle.roam_conf.specs.declared.place.Link.{Link}
-use Rattle.roam_random.specs.declared.hash_key.HashKey.{HashKey}
+use Rattle.roam_crypto.specs.declared.hash_key.HashKey.{HashKey}
 use Rattle.roam_pending.specs.ListLaws.{IsIn}
 use Rattle.roam_pending.specs.PlainEntry.{PlainEntry, PlainStanding, deadline_of, done, stands_done, waiting}
 use Rattle.roam_pending.specs.Realms.{PutsChanged, with_ends, with_link}

@@ -8,8 +8,8 @@ use Rattle.std.specs.Ordering.{nat_cmp}
 use Rattle.std.specs.declared.cmp.Ordering.TheVariants.{Less}
 use Rattle.std.proofs.lemmas.Bool.{cases_eq, cases_lt}
 use Rattle.std.proofs.lemmas.Bool.Decides.{nat_tests}
-use Rattle.roam_random.specs.Keyed.{hash_of}
-use Rattle.roam_random.specs.declared.hash_key.HashKey.{HashKey}
+use Rattle.roam_crypto.specs.Keyed.{hash_of}
+use Rattle.roam_crypto.specs.declared.hash_key.HashKey.{HashKey}
 use Rattle.roam_pending.specs.Conversations.{Round, if_round, is_round, is_round_of, last_round, round_of}
 use Rattle.roam_pending.specs.EntryList.{IsInOrder, find_ticket}
 use Rattle.roam_pending.specs.ListLaws.{IsIn}

@@ -3,8 +3,8 @@ use Rattle.std.proofs.Common.{◌≡◌, ℕ, List, [], ◌∷◌, length, Optio
 use Rattle.std.specs.Prelude.{option_and_then}
 use Rattle.slab.specs.Slab.{Slab}
 use Rattle.indexmap.specs.IndexMap.{IndexMap}
-use Rattle.roam_random.specs.Keyed.{hash_of}
-use Rattle.roam_random.specs.declared.hash_key.HashKey.{HashKey}
+use Rattle.roam_crypto.specs.Keyed.{hash_of}
+use Rattle.roam_crypto.specs.declared.hash_key.HashKey.{HashKey}
 use Rattle.roam_pending.specs.Conversations.{if_round, last_round}
 use Rattle.roam_pending.specs.EntryList.{find_ticket}
 use Rattle.roam_pending.specs.ListLaws.{IsIn}

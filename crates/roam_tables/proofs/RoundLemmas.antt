@@ -4,7 +4,7 @@ use Rattle.std.specs.Prelude.{option_and_then, option_map}
 use Rattle.std.specs.Ordering.{nat_cmp}
 use Rattle.std.proofs.lemmas.Bool.{cases_eq}
 use Rattle.roam_conf.specs.declared.place.Link.{Link}
-use Rattle.roam_random.specs.declared.hash_key.HashKey.{HashKey}
+use Rattle.roam_crypto.specs.declared.hash_key.HashKey.{HashKey}
 use Rattle.roam_pending.specs.declared.key.Requester.{Requester}
 use Rattle.roam_pending.specs.declared.key.Requester.TheVariants as requester
 use Rattle.roam_pending.specs.Conversations.{kept_state, round_with}

@@ -11,8 +11,8 @@ ghost use Rattle.roam_wire.specs.Numbered.{tickets_end};
 
 use crate::words::{key_word, realm_word};
 use indexmap::IndexMap;
+use roam_crypto::HashKey;
 use roam_pending::Key;
-use roam_random::HashKey;
 use std::alloc::Allocator;
 use std::hash::{BuildHasherDefault, FoldHasher, Hash, Hasher};
 

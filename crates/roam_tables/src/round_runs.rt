@@ -12,7 +12,7 @@ ghost use Rattle.roam_tables.specs.Private.Words.{round_fed};
 use crate::queue::{add_ticket, drop_ticket, make_room};
 use crate::words::realm_word;
 use indexmap::IndexMap;
-use roam_random::HashKey;
+use roam_crypto::HashKey;
 use roam_wire::NoMemory;
 use std::alloc::Allocator;
 use std::collections::VecDeque;

@@ -1,7 +1,7 @@
 //! Request Authenticators of a seed, a stream and a position: those that are published, and others
 //! that were computed apart, by a ChaCha20 written from the formulas of RFC 8439, with 64 bits for the
 //! counter and 64 for the stream's number (`oracle/vectors.py`).
-use roam_random::{KeptWords, next_position, request_authenticator};
+use roam_crypto::{KeptWords, next_position, request_authenticator};
 
 const ZERO_SEED: [u8; 32] = [0; 32];
 

@@ -7,8 +7,8 @@ ghost use Rattle.roam_pending.specs.Conversations.{kept_state};
 ghost use Rattle.roam_pending.specs.Shown.{shown_standing};
 
 use roam_conf::{Address, Endpoint, Link, Place};
+use roam_crypto::HashKey;
 use roam_pending::{Course, Done, Entries, Entry, Key, Request, Requester, Standing, Waiting};
-use roam_random::HashKey;
 use roam_tables::Tables;
 use roam_wire::{NoMemory, Octets};
 use std::alloc::{Allocator, Global};

@@ -1,6 +1,6 @@
 -- The buckets of sessions, by keyed hashes of their rows (ours).
 use Rattle.std.specs.Prelude.{ℕ, ◌%◌, List, [], ◌∷◌, Option, Some, None, option_and_then, if◌then◌else◌}
-use Rattle.roam_random.specs.Keyed.{hash_of}
+use Rattle.roam_crypto.specs.Keyed.{hash_of}
 use Rattle.roam_sessions.specs.Private.Row.{id_row, whole_row}
 use Rattle.roam_sessions.specs.Sessions.{Session, same_session}
 use Rattle.roam_sessions.specs.declared.buckets.Buckets.{Buckets}

@@ -4,8 +4,8 @@ use Rattle.std.specs.Ordering.{nat_cmp}
 use Rattle.indexmap.specs.IndexMap as map
 use Rattle.indexmap.specs.IndexMap.{IndexMap}
 use Rattle.roam_conf.specs.declared.place.Link.{Link}
-use Rattle.roam_random.specs.Keyed.{hash_of}
-use Rattle.roam_random.specs.declared.hash_key.HashKey.{HashKey}
+use Rattle.roam_crypto.specs.Keyed.{hash_of}
+use Rattle.roam_crypto.specs.declared.hash_key.HashKey.{HashKey}
 use Rattle.roam_pending.specs.Conversations.{Round, round_of}
 use Rattle.roam_pending.specs.ListLaws.{IsIn}
 use Rattle.roam_pending.specs.PlainEntry.{PlainEntry}

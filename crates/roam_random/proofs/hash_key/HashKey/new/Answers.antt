@@ -1,7 +1,0 @@
-use Rattle.std.proofs.Common.{refl}
-use Rattle.roam_random.specs.Keyed.{keyed}
-use Rattle.roam_random.proofs.hash_key.HashKey.new.Goals as goal
-
-pub returns : goal.returns
-unfolding keyed
-returns c = rw (c.write.ensures, c.new-begun.ensures) refl
