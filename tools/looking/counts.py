@@ -66,9 +66,9 @@ CONSTANTS = {
     r"the send\s+queue \((\d+) packets a worker": ("roam_port/src/sharing.rt", "GREATEST_SHARE"),
     r"packets a worker; (\d+) with 1,024 realms": ("roam_port/src/sharing.rt", "LEAST_SHARE"),
     r"at most (\d+)\s+connections are open": ("roam_admin/src/connections.rt", "CONNECTIONS"),
-    r"asks\s+for\s+([\d,]+) octets a socket": ("roam_sockets/src/options.rt", "RECEIVE_BUFFER"),
-    r"and for ([\d,]+) for each of the eight": ("roam_sockets/src/options.rt", "BUFFER_OF_SEVERAL"),
-    r"and (\d+) beside them want": ("roam_sockets/src/descriptors.rt", "BESIDE"),
+    r"asks\s+for\s+([\d,]+) octets a socket": ("roam_system/src/options.rt", "RECEIVE_BUFFER"),
+    r"and for ([\d,]+) for each of the eight": ("roam_system/src/options.rt", "BUFFER_OF_SEVERAL"),
+    r"and (\d+) beside them want": ("roam_system/src/descriptors.rt", "BESIDE"),
 }
 
 

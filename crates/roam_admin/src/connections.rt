@@ -13,7 +13,7 @@ use libc::net::{POLLIN, POLLOUT, poll};
 use libc::types::pollfd;
 use log::{Log, warn};
 use mio::net::{UnixListener, UnixStream};
-use roam_sockets::now;
+use roam_system::now;
 use std::alloc::Global;
 use std::hash::RandomState;
 use std::io::{ErrorKind, Read, Write};

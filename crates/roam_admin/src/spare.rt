@@ -2,7 +2,7 @@
 
 ghost use Rattle.std.specs.Prelude.{◌≡◌, ◌↔◌, None, IsSome, IsTrue};
 
-use roam_sockets::reason_of;
+use roam_system::reason_of;
 use std::io;
 use std::os::fd::{AsFd, OwnedFd};
 

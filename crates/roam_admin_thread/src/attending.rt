@@ -19,7 +19,7 @@ use roam_log::ReloadEnd;
 use roam_logger::tell_reload;
 use roam_metrics::{StatusForm, page, status};
 use roam_outgoing::ThreadCounts;
-use roam_sockets::{BoundSocket, now};
+use roam_system::{BoundSocket, now};
 use roam_workers::{HubCalls, Shared};
 use std::alloc::{AllocError, Global};
 use std::net::Net;

@@ -4,7 +4,7 @@ use crate::manner::Manner;
 use roam_admin::Reply;
 use roam_conf::Config;
 use roam_outgoing::Counters;
-use roam_sockets::BoundSocket;
+use roam_system::BoundSocket;
 
 /// A configuration that is served, with its sockets and its counts.
 pub struct Configured {

@@ -1,11 +1,11 @@
 //! The sockets that a worker hears are registered with what it waits with.
 
 ghost use Rattle.std.specs.Prelude.{IfErr};
-ghost use Rattle.roam_sockets.specs.Faults.{IsAfterBinding};
+ghost use Rattle.roam_system.specs.Faults.{IsAfterBinding};
 
 use mio::unix::SourceFd;
 use mio::{Interest, Poll, Token};
-use roam_sockets::{BoundSocket, ServeFault, reason_of};
+use roam_system::{BoundSocket, ServeFault, reason_of};
 use std::os::fd::AsRawFd;
 
 /// Registers the sockets that a worker hears, each by its place among its receivers.

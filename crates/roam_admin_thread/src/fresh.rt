@@ -2,12 +2,12 @@
 
 ghost use Rattle.std.specs.Prelude.{◌≡◌, IfErr, IfOk};
 ghost use Rattle.roam_history.specs.Books.{count_of};
-ghost use Rattle.roam_sockets.specs.Faults.{IsAfterBinding};
+ghost use Rattle.roam_system.specs.Faults.{IsAfterBinding};
 
 use crate::configured::Configured;
 use crate::kits::{Kits, make_kits};
 use roam_history::Blanks;
-use roam_sockets::ServeFault;
+use roam_system::ServeFault;
 use roam_workers::Rests;
 use std::alloc::Global;
 use std::net::Net;

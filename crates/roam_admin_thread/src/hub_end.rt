@@ -2,7 +2,7 @@
 
 use crate::configured::Handover;
 use crate::next::Next;
-use roam_sockets::ServeFault;
+use roam_system::ServeFault;
 
 /// The end of the time under a configuration.
 #[derive(Drop)]

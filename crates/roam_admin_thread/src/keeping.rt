@@ -9,7 +9,7 @@ use crate::source::{Keeping, Source};
 use log::Log;
 use roam_history::Opened;
 use roam_logger::tell_not_kept;
-use roam_sockets::now;
+use roam_system::now;
 use roam_workers::HubCalls;
 use std::sync::Wait;
 use std::thread;

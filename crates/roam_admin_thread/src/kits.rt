@@ -1,7 +1,7 @@
 //! The parts of the threads that name no hub: all of it is there before a configuration is served, or follows another.
 
 ghost use Rattle.std.specs.Prelude.{◌≡◌, IfErr};
-ghost use Rattle.roam_sockets.specs.Faults.{IsAfterBinding};
+ghost use Rattle.roam_system.specs.Faults.{IsAfterBinding};
 
 use crate::dealing::register;
 use mio::{Events, Waker};
@@ -10,7 +10,7 @@ use roam_log::Exchange;
 use roam_logger::{Exchanges, Notice, Notices, queue_of_lines, queue_of_notices};
 use roam_outgoing::ROOM_EVENTS;
 use roam_port::Outbox;
-use roam_sockets::{BoundSocket, Polls, RECEIVED, ServeFault, make_polls, make_waker};
+use roam_system::{BoundSocket, Polls, RECEIVED, ServeFault, make_polls, make_waker};
 use rtrb::Consumer;
 use std::alloc::Global;
 use std::net::Net;

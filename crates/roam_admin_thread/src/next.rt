@@ -17,7 +17,7 @@ use roam_conf::Config;
 use roam_history::{Blanks, Opened};
 use roam_logger::{Notice, tell_or_drop};
 use roam_outgoing::Counters;
-use roam_sockets::{
+use roam_system::{
     BoundSocket, RECEIVE_BUFFER, ServeFault, bind_following, descriptors_wanted, open_beside, widen,
 };
 use roam_workers::{HubCalls, Rests, Shared};

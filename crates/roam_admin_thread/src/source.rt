@@ -6,7 +6,7 @@ ghost use Rattle.roam_reload.specs.Reload.{MayFollow};
 
 use crate::manner::Manner;
 use roam_conf::Config;
-use roam_sockets::ServeFault;
+use roam_system::ServeFault;
 
 /// A configuration that is to follow the one that is served.
 #[derive(Drop)]

@@ -2,7 +2,7 @@
 
 use roam_admin::Build;
 use roam_conf::Endpoint;
-use roam_sockets::ControlSocket;
+use roam_system::ControlSocket;
 
 /// The sign that a server counts what it does, and the place where that can be read.
 #[derive(Clone, Copy)]

@@ -1,6 +1,6 @@
 -- The causes why `roam ctl` reaches no server. Ours.
 use Rattle.std.specs.Prelude.{ℕ, ◌==◌, if◌then◌else◌, List, Option, Some, None, codes}
-use Rattle.roam_sockets.specs.Words.{words_of}
+use Rattle.roam_system.specs.Words.{words_of}
 
 abbrev words_or_none : Option (List ℕ) → List ℕ
 words_or_none (Some words) = words

@@ -8,12 +8,12 @@ use Rattle.roam_address.specs.declared.endpoint.Endpoint.{Endpoint}
 use Rattle.roam_address.specs.Endpoints.{endpoint_text}
 use Rattle.roam_conf_reader.specs.FaultNames.{name_of}
 use Rattle.roam_conf_reader.specs.declared.fault.ConfFault.{ConfFault}
-use Rattle.roam_keeping.specs.Obstacles.{obstacle_text}
-use Rattle.roam_sockets.specs.declared.fault.SocketPath.{SocketPath}
-use Rattle.roam_sockets.specs.declared.fault.ServeFault.{ServeFault}
-use Rattle.roam_sockets.specs.declared.fault.ServeFault.TheVariants as serve
-use Rattle.roam_sockets.specs.Faults.{path_octets}
-use Rattle.roam_sockets.specs.Words.{words_of}
+use Rattle.roam_system.specs.Obstacles.{obstacle_text}
+use Rattle.roam_system.specs.declared.fault.SocketPath.{SocketPath}
+use Rattle.roam_system.specs.declared.fault.ServeFault.{ServeFault}
+use Rattle.roam_system.specs.declared.fault.ServeFault.TheVariants as serve
+use Rattle.roam_system.specs.Faults.{path_octets}
+use Rattle.roam_system.specs.Words.{words_of}
 use Rattle.roam_cli.specs.Escaped.{escaped, named_text, about_text}
 use Rattle.roam_cli.specs.declared.report.Fault.{Fault}
 use Rattle.roam_cli.specs.declared.report.Fault.TheVariants as fault

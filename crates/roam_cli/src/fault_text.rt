@@ -11,8 +11,7 @@ use crate::usage::print_usage;
 use roam_conf::Endpoint;
 use roam_conf_reader::ConfFault;
 use roam_diagnosis::Lines;
-use roam_keeping::Obstacle;
-use roam_sockets::{SocketPath, words_of};
+use roam_system::{Obstacle, SocketPath, words_of};
 use std::io;
 use std::io::Write;
 

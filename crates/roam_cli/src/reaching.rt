@@ -3,7 +3,7 @@
 ghost use Rattle.std.specs.Prelude.{◌≡◌};
 ghost use Rattle.roam_cli.specs.Reaching as spec;
 
-use roam_sockets::words_of;
+use roam_system::words_of;
 use std::io;
 
 /// Returns the number of the system's error, or 0.

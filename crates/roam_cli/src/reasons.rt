@@ -4,7 +4,7 @@ ghost use Rattle.std.specs.Prelude.{OnOk};
 ghost use Rattle.std.specs.Io.KnownBytes.{Appends};
 ghost use Rattle.roam_cli.specs.Report as spec;
 
-use roam_sockets::words_of;
+use roam_system::words_of;
 use std::io;
 use std::io::Write;
 

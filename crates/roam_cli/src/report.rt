@@ -6,8 +6,7 @@ ghost use Rattle.roam_cli.specs.Report as spec;
 
 use roam_conf::Endpoint;
 use roam_conf_reader::ConfFault;
-use roam_keeping::Obstacle;
-use roam_sockets::{Reason, ServeFault, SocketPath};
+use roam_system::{Obstacle, Reason, ServeFault, SocketPath};
 use std::io;
 use std::io::ErrorKind;
 

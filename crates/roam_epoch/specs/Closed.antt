@@ -8,7 +8,7 @@ use Rattle.roam_shard.specs.Steps.{PlainStep}
 use Rattle.roam_history.specs.HubOpening.{HubOpening}
 use Rattle.roam_hub.specs.Histories.{AreHistories}
 use Rattle.roam_hub.specs.Pausing.{ArePaused, StandAtEnd}
-use Rattle.roam_sockets.specs.Faults.{IsAfterBinding}
+use Rattle.roam_system.specs.Faults.{IsAfterBinding}
 use Rattle.roam_admin_thread.specs.declared.hub_end.HubEnd.{HubEnd}
 use Rattle.roam_admin_thread.specs.declared.hub_end.HubEnd.TheVariants as ends
 use Rattle.roam_epoch.specs.declared.parts.Unserved.{Unserved}

@@ -4,7 +4,7 @@ ghost use Rattle.std.specs.Prelude.{◌≡◌, IfErr, IfOk, length};
 ghost use Rattle.roam_history.specs.Shown.{recorded};
 ghost use Rattle.roam_workers.specs.JobCounts.{AreAllTaken};
 ghost use Rattle.roam_epoch.specs.Closed.{EndsOf, MayGoOn};
-ghost use Rattle.roam_sockets.specs.Faults.{IsAfterBinding};
+ghost use Rattle.roam_system.specs.Faults.{IsAfterBinding};
 ghost use Rattle.roam_workers.specs.Endings.{job_counts_of};
 
 use crate::given_back::given_back;
@@ -12,7 +12,7 @@ use crate::parts::Left;
 use crate::room::RunResult;
 use roam_admin_thread::HubEnd;
 use roam_hub::{Audited, Hub, Opened, PauseRoom, Paused, PausedHub, Seat};
-use roam_sockets::ServeFault;
+use roam_system::ServeFault;
 use roam_workers::{Ended, LockedQueue};
 use std::alloc::Global;
 use std::sync::Wait;

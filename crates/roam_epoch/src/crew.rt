@@ -10,7 +10,7 @@ use mio::Waker;
 use roam_admin_thread::{Handover, HubEnd, ThreadKits};
 use roam_hub::{Opened, Seat};
 use roam_port::Outbox;
-use roam_sockets::BoundSocket;
+use roam_system::BoundSocket;
 use roam_workers::{Rests, Shared, TimerRest};
 use std::alloc::Global;
 use std::sync::atomic::AtomicBool;

@@ -5,12 +5,12 @@ ghost use Rattle.roam_counters.specs.Datagrams.{all_of, both};
 ghost use Rattle.roam_workers.specs.JobCounts.{AreAllTaken};
 ghost use Rattle.roam_workers.specs.Endings.{datagrams_of, endings_of, job_counts_of};
 ghost use Rattle.roam_workers.specs.declared.ending.Ending.TheVariants as ending;
-ghost use Rattle.roam_sockets.specs.Faults.{IsAfterBinding};
+ghost use Rattle.roam_system.specs.Faults.{IsAfterBinding};
 
 use crate::room::Results;
 use roam_counters::Datagrams;
 use roam_hub::Opened;
-use roam_sockets::ServeFault;
+use roam_system::ServeFault;
 use roam_workers::{Ended, LockedQueue, Rests, WorkerEnd, audit_jobs, has_given_up_after};
 
 /// Returns the first of two, or the other one where it is missing.

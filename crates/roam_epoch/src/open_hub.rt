@@ -6,7 +6,7 @@ ghost use Rattle.roam_history.specs.Books.{books_of, count_of};
 ghost use Rattle.roam_history.specs.Shown.{recorded};
 ghost use Rattle.roam_hub.specs.Pausing.{ArePaused, opening_over};
 ghost use Rattle.roam_epoch.specs.Closed.{EndSomewhere, EndsOf, IsUnserved, MayGoOn};
-ghost use Rattle.roam_sockets.specs.Faults.{IsAfterBinding};
+ghost use Rattle.roam_system.specs.Faults.{IsAfterBinding};
 
 use crate::audit::{PausableHub, close_after};
 use crate::crew::{Crew, Prepared, Signals};
@@ -19,7 +19,7 @@ use mio::Waker;
 use roam_admin_thread::{Attendant, Configured, Source};
 use roam_hub::{Blanks, Opened};
 use roam_shard::Paused;
-use roam_sockets::ServeFault;
+use roam_system::ServeFault;
 use roam_workers::{LockedQueue, Shared};
 use std::alloc::Global;
 use std::net::Net;

@@ -12,7 +12,7 @@ use roam_hub::Opened;
 use roam_outgoing::{OldHistory, SharedLosses};
 use roam_port::Outbox;
 use roam_shard::Paused;
-use roam_sockets::ServeFault;
+use roam_system::ServeFault;
 use roam_workers::Rests;
 use std::alloc::Global;
 use std::time::Instant;

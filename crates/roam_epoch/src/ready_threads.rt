@@ -1,7 +1,7 @@
 //! The threads of a server, before they start.
 
 ghost use Rattle.std.specs.Prelude.{IfErr};
-ghost use Rattle.roam_sockets.specs.Faults.{IsAfterBinding};
+ghost use Rattle.roam_system.specs.Faults.{IsAfterBinding};
 
 use crate::thread_parts::{Part, Parts, parts_of};
 use mio::{Events, Poll};
@@ -12,7 +12,7 @@ use roam_log::Exchange;
 use roam_logger::{ExchangeQueues, Logger, Notice};
 use roam_outgoing::{Counting, EventCounts, Outgoing, RoomEvents};
 use roam_port::{Outbox, socket_numbers};
-use roam_sockets::{BoundSocket, ServeFault, ports, receivers};
+use roam_system::{BoundSocket, ServeFault, ports, receivers};
 use roam_workers::{IN_A_ROUND, Junk, Rests, Shared, Timer, Worker, WorkerContext, WorkerJobs};
 use rtrb::Consumer;
 use std::alloc::{AllocError, Global};

@@ -1,12 +1,12 @@
 //! The parts of each thread that takes part in the hub.
 
 ghost use Rattle.std.specs.Prelude.{IfErr};
-ghost use Rattle.roam_sockets.specs.Faults.{IsAfterBinding};
+ghost use Rattle.roam_system.specs.Faults.{IsAfterBinding};
 
 use roam_admin_thread::{Kit, ThreadKits};
 use roam_history::{Opened, Seat, split};
 use roam_port::Outbox;
-use roam_sockets::ServeFault;
+use roam_system::ServeFault;
 use std::alloc::Global;
 
 /// The parts of a worker or the timer: its kit, an outbox, in which packets may wait that others left there, and its

@@ -7,7 +7,7 @@ use log::{Log, info, warn};
 use roam_conf::{Address, Config, Endpoint, Link};
 use roam_log::{RefusalCount, RefusedText, TurnedAway, TurnedAwayText, server_endpoint};
 use roam_port::LossCause;
-use roam_sockets::{Reason, words_of};
+use roam_system::{Reason, words_of};
 use std::fmt::Display;
 
 /// A notice on standard error.

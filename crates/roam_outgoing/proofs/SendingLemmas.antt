@@ -11,8 +11,8 @@ use Rattle.roam_port.specs.declared.sent.Sent.{Sent}
 use Rattle.roam_admission.specs.Admission.{PlainOut}
 use Rattle.roam_admission.specs.Shown.{shown_out}
 use Rattle.roam_admission.specs.declared.datagram.Out.{Out}
-use Rattle.roam_sockets.specs.declared.place_sockets.PlaceSockets.{PlaceSockets}
-use Rattle.roam_sockets.specs.declared.socket.Socket.{Socket}
+use Rattle.roam_system.specs.declared.place_sockets.PlaceSockets.{PlaceSockets}
+use Rattle.roam_system.specs.declared.socket.Socket.{Socket}
 use Rattle.roam_port.specs.Fates.{Becomes}
 use Rattle.roam_port.proofs.FateLemmas.{becomes_both, becomes_same, more_become, tried_become}
 use Rattle.roam_port.proofs.PortFateLemmas.{all_go_or_wait, puts_go_or_wait}

@@ -11,9 +11,9 @@ use Rattle.roam_port.specs.declared.outbox.Outbox.{Outbox}
 use Rattle.roam_port.specs.declared.sent.Sent.{Sent}
 use Rattle.roam_admission.specs.Admission.{PlainOut}
 use Rattle.roam_admission.specs.declared.datagram.Out.{Out}
-use Rattle.roam_sockets.specs.PlaceSockets.{IsAsked, Makes}
-use Rattle.roam_sockets.specs.declared.place_sockets.PlaceSockets.{PlaceSockets}
-use Rattle.roam_sockets.specs.declared.socket.Socket.{Socket}
+use Rattle.roam_system.specs.PlaceSockets.{IsAsked, Makes}
+use Rattle.roam_system.specs.declared.place_sockets.PlaceSockets.{PlaceSockets}
+use Rattle.roam_system.specs.declared.socket.Socket.{Socket}
 use Rattle.roam_outgoing.specs.declared.outgoing.Outgoing.{Outgoing}
 
 -- the packets of a thread that wait for their sockets, and what became of those before

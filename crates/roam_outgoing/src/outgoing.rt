@@ -11,7 +11,7 @@ use mio::{Events, Poll};
 use roam_admission::Out;
 use roam_exchange::Outs;
 use roam_port::{Account, Outbox, Sent};
-use roam_sockets::{PlaceSockets, Polls, Socket};
+use roam_system::{PlaceSockets, Polls, Socket};
 use roam_wire::NoMemory;
 use std::alloc::Global;
 

@@ -4,7 +4,7 @@ use crate::outlet::Outlet;
 use log::kv::Source;
 use log::span::Spans;
 use log::{LevelFilter, Log, Metadata, Record};
-use roam_keeping::{Keeper, KeepsFiles};
+use roam_system::{Keeper, KeepsFiles};
 use std::alloc::{Allocator, Global};
 use std::fmt::Display;
 use std::fs::OpenOptions;

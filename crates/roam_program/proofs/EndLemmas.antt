@@ -4,9 +4,9 @@ use Rattle.std.specs.Prelude.{Contains}
 use Rattle.roam_conf.specs.Config.{ConfigView}
 use Rattle.roam_port.specs.Sockets.{socket_endpoints}
 use Rattle.roam_sim.specs.Simulation.{IsConfiguration}
-use Rattle.roam_sockets.specs.declared.fault.ServeFault.{ServeFault}
-use Rattle.roam_sockets.specs.declared.fault.ServeFault.TheVariants as serve
-use Rattle.roam_sockets.specs.Faults.{IsFaultOf}
+use Rattle.roam_system.specs.declared.fault.ServeFault.{ServeFault}
+use Rattle.roam_system.specs.declared.fault.ServeFault.TheVariants as serve
+use Rattle.roam_system.specs.Faults.{IsFaultOf}
 use Rattle.roam_cli.specs.Report.{fault_of}
 use Rattle.roam_cli.specs.declared.text_file.TextFile.{TextFile}
 use Rattle.roam_cli.specs.CommandFaults.{text_in, ServeFails}

@@ -13,7 +13,7 @@ use roam_cli::{
     tell_advice, tell_usage, tell_version, unknown_word, untimed_word,
 };
 use roam_diagnosis::Lines;
-use roam_keeping::KeepsFiles;
+use roam_system::KeepsFiles;
 use std::convert::AsStr;
 use std::io::Write;
 use std::net::Net;

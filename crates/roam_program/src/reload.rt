@@ -12,9 +12,9 @@ use roam_cli::{Fault, TextFile, print_changes, print_hindrance, print_no_number}
 use roam_conf::Config;
 use roam_conf_reader::{Settings, following_config, read_config_and_settings};
 use roam_diagnosis::{Lines, diagnose};
-use roam_keeping::{Job, Keeper, Written, keep_old, kept, number_of, put_aside};
 use roam_reload::{LayFault, hindrance_of};
 use roam_server::{FileOrder, Following, KeepEnd, Keeping, ServeFault, Source, StationForm};
+use roam_system::{Job, Keeper, Written, keep_old, kept, number_of, put_aside};
 use std::alloc::Global;
 use std::io;
 use std::io::Write;

@@ -3,7 +3,7 @@
 ghost use Rattle.std.specs.Prelude.{◌≡◌, ℕ, List, Option, OnOk, IfErr, IfOk};
 ghost use Rattle.roam_conf.specs.Shown.{shown};
 ghost use Rattle.roam_port.specs.Sockets.{socket_endpoints};
-ghost use Rattle.roam_sockets.specs.Faults.{IsFaultOf};
+ghost use Rattle.roam_system.specs.Faults.{IsFaultOf};
 ghost use Rattle.roam_sim.specs.Simulation.{IsAccepted};
 ghost use Rattle.roam_cli.specs.CommandLine.{AsksToServeIt};
 ghost use Rattle.roam_cli.specs.CommandFaults.{text_in, ServeFails};
@@ -17,11 +17,11 @@ use roam_cli::{Fault, TextFile};
 use roam_conf::Config;
 use roam_conf_reader::{Settings, read_config_and_settings};
 use roam_diagnosis::{Lines, diagnose};
-use roam_keeping::KeepsFiles;
 use roam_server::{
     Build, ControlSocket, Manner, ServeFault, ServeOptions, SocketPath, Watch, descriptors_wanted,
     reason_of, serve, with_drawn_seed,
 };
+use roam_system::KeepsFiles;
 use std::net::Net;
 use std::random::RandomSource;
 use std::rt::Files;

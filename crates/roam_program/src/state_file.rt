@@ -2,12 +2,11 @@
 
 ghost use Rattle.std.specs.Prelude.{IfErr};
 ghost use Rattle.roam_conf.specs.Config.{ConfigView};
-ghost use Rattle.roam_sockets.specs.Faults.{IsFaultOf};
+ghost use Rattle.roam_system.specs.Faults.{IsFaultOf};
 
 use roam_conf_reader::Settings;
-use roam_keeping::{FileLock, Obstacle, obstacle_at};
 use roam_server::{Manner, ServeFault, SocketPath, StateFile, StationForm};
-use roam_sockets::words_of;
+use roam_system::{FileLock, Obstacle, obstacle_at, words_of};
 use std::alloc::{AllocError, Global};
 use std::io::ErrorKind;
 use std::rt::Files;

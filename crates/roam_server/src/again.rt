@@ -2,12 +2,12 @@
 
 ghost use Rattle.std.specs.Prelude.{◌≡◌, ◌+◌, ◌-◌, ◌^◌, IfErr, IfOk, min, option_map};
 ghost use Rattle.roam_history.specs.Books.{count_of};
-ghost use Rattle.roam_sockets.specs.Faults.{IsAfterBinding};
+ghost use Rattle.roam_system.specs.Faults.{IsAfterBinding};
 
 use roam_admin_thread::{Configured, FreshMeans, fill_outboxes};
 use roam_epoch::ServerParts;
 use roam_port::{Outbox, socket_numbers};
-use roam_sockets::{ServeFault, descriptors_wanted, now};
+use roam_system::{ServeFault, descriptors_wanted, now};
 use roam_workers::Rests;
 use std::alloc::Global;
 use std::net::Net;

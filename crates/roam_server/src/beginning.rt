@@ -7,7 +7,7 @@ ghost use Rattle.roam_sessions.specs.ShownLedgers.{shown_items};
 ghost use Rattle.roam_core.specs.Openings.{fresh_starts};
 ghost use Rattle.roam_shard.specs.ShardView.{AreStarts};
 ghost use Rattle.roam_server.specs.Begins.{HasBegun, HaveBegun};
-ghost use Rattle.roam_sockets.specs.Faults.{IsAfterBinding};
+ghost use Rattle.roam_system.specs.Faults.{IsAfterBinding};
 
 use crate::again::begin_time;
 use crate::taken_up::{count_in, count_sessions};
@@ -19,7 +19,7 @@ use roam_logger::{tell_left_out, tell_taken_up, tell_unread};
 use roam_realm::Start;
 use roam_sessions::{Item, ReadError, read};
 use roam_shard::{Paused, Shard, first_starts};
-use roam_sockets::ServeFault;
+use roam_system::ServeFault;
 use std::alloc::Global;
 use std::time::Clock;
 

@@ -3,7 +3,7 @@
 use log::Log;
 use roam_admin::{Asker, Door, Office, answer_on};
 use roam_outgoing::OldHistory;
-use roam_sockets::ControlSocket;
+use roam_system::ControlSocket;
 use std::alloc::Global;
 use std::net::TcpListener;
 use std::random::RandomSource;

@@ -36,6 +36,6 @@ pub use server::{ServeOptions, serve};
 pub use roam_admin::{Build, FileOrder};
 pub use roam_admin_thread::{Following, KeepEnd, Keeping, Manner, Source, StateFile, Watch};
 pub use roam_log::{StationForm, StationKey};
-pub use roam_sockets::{
+pub use roam_system::{
     ControlSocket, Reason, ServeFault, SocketPath, descriptors_wanted, reason_of, with_drawn_seed,
 };

@@ -3,7 +3,7 @@
 ghost use Rattle.std.specs.Prelude.{IfErr, IfOk};
 ghost use Rattle.roam_conf.specs.Shown.{shown};
 ghost use Rattle.roam_server.specs.Served.{HasServedAll};
-ghost use Rattle.roam_sockets.specs.Faults.{IsAfterBinding, IsFaultOf};
+ghost use Rattle.roam_system.specs.Faults.{IsAfterBinding, IsFaultOf};
 
 use crate::behind::{Behind, start_behind};
 use crate::serving::serve_all;
@@ -17,7 +17,7 @@ use roam_epoch::{Means, ServerParts};
 use roam_logger::{Notice, tell_or_drop};
 use roam_outgoing::{CAUSES, Counters, OldHistory, SharedLosses};
 use roam_port::socket_numbers;
-use roam_sockets::{BoundSocket, ServeFault, bind_all, descriptors_wanted, listen_at, reason_of};
+use roam_system::{BoundSocket, ServeFault, bind_all, descriptors_wanted, listen_at, reason_of};
 use roam_workers::Rests;
 use std::alloc::Global;
 use std::net::{Net, TcpListener};

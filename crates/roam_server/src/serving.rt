@@ -7,7 +7,7 @@ ghost use Rattle.roam_history.specs.Books.{count_of};
 ghost use Rattle.roam_hub.specs.Pausing.{ArePaused};
 ghost use Rattle.roam_epoch.specs.Closed.{MayGoOn};
 ghost use Rattle.roam_server.specs.Served.{HasServedAll, IsServedOn};
-ghost use Rattle.roam_sockets.specs.Faults.{IsAfterBinding};
+ghost use Rattle.roam_system.specs.Faults.{IsAfterBinding};
 
 use crate::again::{is_time_over, take_again, told_or};
 use crate::beginning::begin;
@@ -20,7 +20,7 @@ use roam_hub::Blanks;
 use roam_logger::{Notice, tell_or_drop};
 use roam_port::Outbox;
 use roam_shard::Paused;
-use roam_sockets::ServeFault;
+use roam_system::ServeFault;
 use roam_workers::Rests;
 use std::alloc::Global;
 use std::marker::Brand;

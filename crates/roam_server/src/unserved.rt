@@ -3,7 +3,7 @@
 use roam_admin::{Course, Desk, Order, plain_reply};
 use roam_admin_thread::{Source, stopping};
 use roam_epoch::ServerParts;
-use roam_sockets::ServeFault;
+use roam_system::ServeFault;
 use std::sync::Wait;
 
 /// Returns what is said of the fault for which nothing serves.

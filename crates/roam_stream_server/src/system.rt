@@ -2,7 +2,7 @@
 
 use mio::Registry;
 use mio::net::UdpSocket;
-use roam_sockets::widen;
+use roam_system::widen;
 use std::net::{Net, SocketAddr};
 use std::{io, net};
 

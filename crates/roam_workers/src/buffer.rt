@@ -1,7 +1,7 @@
 //! The buffer in which datagrams are received.
 
 use roam_admission::Datagram;
-use roam_sockets::RECEIVED;
+use roam_system::RECEIVED;
 use std::alloc::Global;
 
 /// The octets with which the buffer of a datagram is filled up, in one go.

@@ -19,7 +19,7 @@ use roam_history::{Answered, HubFault, Opened, Seat, Ticked};
 use roam_log::Origin;
 use roam_logger::{Exchanges, Notices};
 use roam_outgoing::{Counting, Outgoing};
-use roam_sockets::{now, wall_seconds};
+use roam_system::{now, wall_seconds};
 use roam_wire::Refusal;
 use std::alloc::Global;
 use std::sync::Wait;

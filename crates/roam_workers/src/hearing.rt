@@ -5,7 +5,7 @@ ghost use Rattle.std.specs.declared.alloc.Global.{Global};
 ghost use Rattle.roam_port.specs.declared.heard.Heard.{Heard};
 
 use roam_port::Heard;
-use roam_sockets::Receiver;
+use roam_system::Receiver;
 use std::alloc::Global;
 
 /// Gives a worker datagrams, one after the other: in a server it is a socket of the system.

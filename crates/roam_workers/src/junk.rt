@@ -7,7 +7,7 @@
 ghost use Rattle.std.specs.Prelude.{◌<◌};
 
 use roam_conf::{Address, Endpoint};
-use roam_sockets::Sinks;
+use roam_system::Sinks;
 use roam_wire::Refusal;
 use std::alloc::Global;
 

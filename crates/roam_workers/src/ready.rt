@@ -1,7 +1,7 @@
 //! The receivers that are ready: those from which something may be received.
 
 use mio::{Events, Token};
-use roam_sockets::{Receiver, WAIT_AFTER_FAULT};
+use roam_system::{Receiver, WAIT_AFTER_FAULT};
 use std::alloc::Global;
 
 /// The time that a worker waits for a datagram, in milliseconds, where none comes and nobody wakes it.

@@ -19,7 +19,7 @@ use crate::worker_jobs::WorkerJobs;
 use mio::{Events, Poll};
 use roam_history::Opened;
 use roam_port::Heard;
-use roam_sockets::{Receiver, WAIT_AFTER_FAULT};
+use roam_system::{Receiver, WAIT_AFTER_FAULT};
 use std::alloc::Global;
 use std::sync::Wait;
 use std::thread;

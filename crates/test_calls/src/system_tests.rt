@@ -2,7 +2,7 @@
 //! `packaging/tests/try-clock.py` and `try-calls.py`.
 
 use crate::configuration::two_servers;
-use roam_sockets::{ServeFault, now, with_drawn_seed};
+use roam_system::{ServeFault, now, with_drawn_seed};
 use std::alloc::Global;
 use std::io;
 use std::io::ErrorKind;

@@ -5,7 +5,7 @@ use log::Level;
 use roam_cli::Fault;
 use roam_conf::{Address, Endpoint};
 use roam_outlet::{LogReader, Outlet, write_on};
-use roam_sockets::{Reason, ServeFault, SocketPath};
+use roam_system::{Reason, ServeFault, SocketPath};
 use std::alloc::Global;
 use std::io;
 use std::io::{ErrorKind, Write};

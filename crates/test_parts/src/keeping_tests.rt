@@ -1,6 +1,6 @@
 //! The file of ledgers, on the system's disk.
 
-use roam_keeping::{keep, kept, put_aside};
+use roam_system::{keep, kept, put_aside};
 use std::os::unix::fs::MetadataExt;
 use std::{env, fs, process};
 

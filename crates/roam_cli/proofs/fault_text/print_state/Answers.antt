@@ -1,6 +1,6 @@
 -- The words and the path, and why behind them.
 use Rattle.std.proofs.Common.{ap}
-use Rattle.roam_keeping.specs.Obstacles.{obstacle_text}
+use Rattle.roam_system.specs.Obstacles.{obstacle_text}
 use Rattle.roam_cli.specs.Report.{no_state_text, because_text}
 use Rattle.roam_cli.proofs.WriteLemmas.{then_more}
 use Rattle.roam_cli.proofs.fault_text.print_state.Goals as goal

@@ -1,6 +1,6 @@
 -- The words, and the path behind them.
 use Rattle.std.proofs.Common.{codes, ap}
-use Rattle.roam_sockets.specs.Faults.{path_octets}
+use Rattle.roam_system.specs.Faults.{path_octets}
 use Rattle.roam_cli.specs.Escaped.{escaped}
 use Rattle.roam_cli.proofs.WriteLemmas.{then_more}
 use Rattle.roam_cli.proofs.fault_text.print_unheard.Goals as goal

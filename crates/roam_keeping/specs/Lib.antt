@@ -1,2 +1,0 @@
-pub mod Obstacles
-pub mod Turns

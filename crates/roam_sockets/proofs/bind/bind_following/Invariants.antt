@@ -1,6 +1,0 @@
-use Rattle.roam_conf.specs.Shown.{shown}
-use Rattle.roam_sockets.specs.Bound.{AreBoundUpTo}
-use Rattle.roam_sockets.proofs.bind.bind_following.Given as goal
-
-abbrev pub invariant-loop-number : goal.invariant-loop-number
-invariant-loop-number g l = AreBoundUpTo (shown l.config) l.number l.sockets.bound.items
