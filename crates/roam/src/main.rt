@@ -6,10 +6,11 @@
 
 use log::Log;
 use roam_cli::Fault;
-use roam_outlet::{LogReader, Outlet, OutletWriter, ToOutlet, log_reader, write_on};
 use roam_program::command;
 use roam_stream_server::{ask_for_streams, stream_command};
-use roam_system::{Keeper, KeepsFiles, keep_on};
+use roam_system::{
+    Keeper, KeepsFiles, LogReader, Outlet, OutletWriter, ToOutlet, keep_on, log_reader, write_on,
+};
 use std::alloc::Global;
 use std::io::{BufWriter, Write};
 use std::net::Net;

@@ -4,8 +4,7 @@ ghost use Rattle.std.specs.Prelude.{◌≡◌, IfOk, IfErr};
 ghost use Rattle.roam_cli.specs.Unread.{IsUnread};
 
 use crate::report::Fault;
-use roam_outlet::lines_in;
-use roam_system::{Reason, reason_of};
+use roam_system::{Reason, lines_in, reason_of};
 use std::io::ErrorKind;
 use std::rt::Files;
 use std::{fs, io};

@@ -3,3 +3,4 @@ pub mod BoundLemmas
 pub mod DealingLemmas
 pub mod NumberLemmas
 pub mod PlaceSocketLemmas
+pub mod LineLemmas

@@ -9,3 +9,4 @@ pub mod Turns
 pub mod Words
 pub mod Obstacles
 pub mod WritingTurns
+pub mod Heads

@@ -1,12 +1,16 @@
-//! The system's part in a server: sockets, a clock, seeds, what to wait with, and the file of session tables.
+//! The system's part in a server: sockets, a clock, seeds, what to wait with, the file of session tables, and standard
+//! error.
 //!
-//! Nothing here knows a realm's state, a thread or a hub: sockets are bound at the endpoints of a configuration, and
-//! a receive or a send is one call of one of them. Why a server ends is told in this crate's words, since most of it is
-//! what the system refuses.
+//! Nothing here knows a realm's state or a hub: sockets are bound at the endpoints of a configuration, and a receive or a
+//! send is one call of one of them. Why a server ends is told in this crate's words, since most of it is what the system
+//! refuses.
 //!
 //! What the system and the disk do isn't claimed: here they are asked. The file of session tables is written beside the
 //! one that it takes the place of, which stays as it is until all of the new one is on the disk. A lock of the system
 //! gives the file to one server only, and a thread of its own writes it.
+//!
+//! Nobody waits for standard error: lines lie in an outlet, and a thread of its own writes them. A line begins as the
+//! reader of the log wants it: a priority for the journal, else the moment and the level.
 //!
 //! # Proved
 //!
@@ -36,18 +40,22 @@ mod fault;
 mod file_lock;
 mod keeper;
 mod kept_file;
+mod line_head;
 mod listener;
 mod obstacle;
 mod one_socket;
 mod opening;
 mod options;
+mod outlet;
 mod place_sockets;
 mod polls;
 mod receiver;
+mod runtime;
 mod seed;
 mod sinks;
 mod socket;
 mod turn;
+mod waiting;
 mod words;
 mod workers;
 
@@ -60,15 +68,19 @@ pub use fault::{Reason, ServeFault, SocketPath, reason_of};
 pub use file_lock::FileLock;
 pub use keeper::{Keeper, KeepsFiles, keep_on};
 pub use kept_file::{keep, keep_old, kept, number_of, put_aside};
+pub use line_head::{LogReader, log_reader};
 pub use listener::listen_at;
 pub use obstacle::{LARGEST, Obstacle, obstacle_at};
 pub use one_socket::open_beside;
 pub use options::{RECEIVE_BUFFER, widen};
+pub use outlet::{Outlet, write_on};
 pub use place_sockets::PlaceSockets;
 pub use polls::{Polls, make_polls, make_waker};
 pub use receiver::{RECEIVED, Receiver, WAIT_AFTER_FAULT};
+pub use runtime::{OutletWriter, ToOutlet};
 pub use seed::with_drawn_seed;
 pub use sinks::Sinks;
 pub use socket::Socket;
 pub use turn::{Job, Turn, Written};
+pub use waiting::lines_in;
 pub use words::words_of;

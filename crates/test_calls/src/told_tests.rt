@@ -4,8 +4,7 @@
 use log::Level;
 use roam_cli::Fault;
 use roam_conf::{Address, Endpoint};
-use roam_outlet::{LogReader, Outlet, write_on};
-use roam_system::{Reason, ServeFault, SocketPath};
+use roam_system::{LogReader, Outlet, Reason, ServeFault, SocketPath, write_on};
 use std::alloc::Global;
 use std::io;
 use std::io::{ErrorKind, Write};

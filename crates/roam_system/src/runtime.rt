@@ -1,10 +1,10 @@
 //! A runtime whose log goes to an outlet.
 
+use crate::keeper::{Keeper, KeepsFiles};
 use crate::outlet::Outlet;
 use log::kv::Source;
 use log::span::Spans;
 use log::{LevelFilter, Log, Metadata, Record};
-use roam_system::{Keeper, KeepsFiles};
 use std::alloc::{Allocator, Global};
 use std::fmt::Display;
 use std::fs::OpenOptions;

@@ -2,7 +2,7 @@
 use Rattle.std.proofs.Common.{add-one, ◌≡◌, ◌∙◌, ℕ, zero, suc, ◌+◌, ◌<◌, true, List, [], ◌∷◌, ◌++◌, length, take, drop, None, Some, Result, Ok, Err, OnOk, eqb, is_ok, if◌then◌else◌, ap, refl, sym, arith, append_assoc}
 use Rattle.std.proofs.lemmas.Bool.{eqb-true, false_from_ne_true}
 use Rattle.memchr.specs.Find.{IsFirstByte, Passes, is_byte}
-use Rattle.roam_outlet.specs.Heads.{message_text, next_octet}
+use Rattle.roam_system.specs.Heads.{message_text, next_octet}
 
 -- an octet that is no line feed stands as it is
 plain : (head : List ℕ) (octet : ℕ) → ¬ (eqb octet 10 ≡ true) → next_octet head octet ≡ octet ∷ []

@@ -34,7 +34,7 @@ message_text head message = flat_map (next_octet head) message
 -- In the journal the priority and the level; elsewhere the time in UTC and the level. Each line of a message is
 -- behind its head.
 -- Source: ours; syslog(3), sd-daemon(3)
--- Stands in: `roam_outlet` `Heads.antt`: `journal_head`, `headed`; `push_lines`
+-- Stands in: `roam_system` `Heads.antt`: `journal_head`, `headed`; `push_lines`
 --
 -- the lines of a message, each behind the head
 abbrev pub headed : List ℕ → List ℕ → List ℕ

@@ -2,7 +2,7 @@
 //! a priority and a level (sd-daemon(3)).
 
 ghost use Rattle.std.specs.Prelude.{◌≡◌, ◌++◌, [], OnOk, Some};
-ghost use Rattle.roam_outlet.specs.Heads as heads;
+ghost use Rattle.roam_system.specs.Heads as heads;
 
 use jiff::Timestamp;
 use log::Level;

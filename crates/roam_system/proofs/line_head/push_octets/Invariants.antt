@@ -1,6 +1,6 @@
 use Rattle.std.proofs.Common.{◌≡◌, ◌≤◌, ◌++◌, length}
-use Rattle.roam_outlet.specs.Heads.{message_text}
-use Rattle.roam_outlet.proofs.line_head.push_octets.Given as goal
+use Rattle.roam_system.specs.Heads.{message_text}
+use Rattle.roam_system.proofs.line_head.push_octets.Given as goal
 
 -- the octets so far, and behind them what the rest becomes
 abbrev pub invariant-loop-end : goal.invariant-loop-end

@@ -1,7 +1,7 @@
 use Rattle.std.proofs.Common.{arith, subst}
 use Rattle.memchr.specs.Find.{IsFirstByte, is_byte}
-use Rattle.roam_outlet.proofs.LineLemmas.{last-line, one-line}
-use Rattle.roam_outlet.proofs.line_head.push_octets.Goals as goal
+use Rattle.roam_system.proofs.LineLemmas.{last-line, one-line}
+use Rattle.roam_system.proofs.line_head.push_octets.Goals as goal
 
 pub overflow_add-end : goal.overflow_add-end
 overflow_add-end c = omega (arith, c.in-Some.ensures.0.high, c.loop-end.invariant.1)
