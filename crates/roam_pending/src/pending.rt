@@ -22,7 +22,7 @@ use std::alloc::Allocator;
 use std::marker::Model;
 use std::mem;
 
-/// For tests and rows; the server has `roam_tables::Tables`.
+/// For tests and rows; the server has `roam_pending::Tables`.
 ///
 /// The entries of one realm, in order of ticket. Contracts see the realm's index, that list, and for
 /// how many more entries there is room.

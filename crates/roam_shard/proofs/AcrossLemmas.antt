@@ -28,7 +28,7 @@ use Rattle.roam_core.specs.Openings.{openings, openings_from}
 use Rattle.roam_core.specs.Steps.{GivesAnswer, IsAnswer}
 use Rattle.roam_core.proofs.EventLemmas.{event-length}
 use Rattle.roam_core.proofs.TickLemmas.{tick_from-length, tick_states}
-use Rattle.roam_tables.proofs.RealmLemmas.{get-set_other, get-set_same}
+use Rattle.roam_pending.proofs.RealmLemmas.{get-set_other, get-set_same}
 use Rattle.roam_shard.specs.Across.{IsSharded, IsShardOf, all_states, no_shard, own_state, states_across}
 use Rattle.roam_shard.specs.ShardView.{OpeningView, ShardView}
 use Rattle.roam_shard.specs.Private.Lost.{IsAnswerOf}

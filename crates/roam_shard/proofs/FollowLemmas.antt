@@ -8,8 +8,8 @@ use Rattle.roam_conf.specs.Config.{ConfigView, RealmView as RealmTable}
 use Rattle.roam_pending.specs.EntryList.{IsEntryList}
 use Rattle.roam_pending.specs.PlainEntry.{PlainEntry}
 use Rattle.roam_pending.specs.Realms.{RealmBecomes}
-use Rattle.roam_tables.specs.Stands.{RealmView, entries_in}
-use Rattle.roam_tables.proofs.RealmLemmas.{get-read, get-set_same}
+use Rattle.roam_pending.specs.Stands.{RealmView, entries_in}
+use Rattle.roam_pending.proofs.RealmLemmas.{get-read, get-set_same}
 use Rattle.roam_reload.specs.Numbers.{is_here}
 use Rattle.roam_realm.specs.RealmConfig.{RealmConfig, realm_config}
 use Rattle.roam_realm.specs.RealmState.{RealmState}

@@ -6,7 +6,7 @@ use Rattle.std.proofs.lemmas.Option.{slice_get-get_or}
 use Rattle.roam_conf.specs.Config.{ConfigView}
 use Rattle.roam_pending.specs.EntryList.{IsEntryList}
 use Rattle.roam_pending.specs.PlainEntry.{PlainEntry}
-use Rattle.roam_tables.specs.Stands.{RealmView, entries_in}
+use Rattle.roam_pending.specs.Stands.{RealmView, entries_in}
 use Rattle.roam_realm.specs.RealmConfig.{RealmConfig, realm_config}
 use Rattle.roam_realm.specs.RealmState.{RealmState, opening}
 use Rattle.roam_realm.specs.Sound.{IsSound, state_of}

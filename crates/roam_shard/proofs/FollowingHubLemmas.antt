@@ -7,7 +7,7 @@ use Rattle.std.proofs.lemmas.List.{length-append}
 use Rattle.std.proofs.lemmas.Option.{slice_get-get_or, slice_get_within}
 use Rattle.roam_conf.specs.Config.{ConfigView}
 use Rattle.roam_realm.specs.RealmState.{RealmState}
-use Rattle.roam_tables.proofs.RealmLemmas.{get-set_other, get-set_same}
+use Rattle.roam_pending.proofs.RealmLemmas.{get-set_other, get-set_same}
 use Rattle.roam_shard.specs.Follow.{AllFollow}
 use Rattle.roam_shard.specs.Pausing.{IsReady, StandsStill, states_under}
 use Rattle.roam_shard.specs.declared.paused.Paused.{Paused}

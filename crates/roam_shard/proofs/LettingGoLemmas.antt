@@ -3,7 +3,7 @@ use Rattle.std.proofs.Common.{◌≡◌, ℕ, suc, ◌+◌, ◌<◌, ◌≤◌, 
 use Rattle.std.specs.Prelude.{not}
 use Rattle.std.proofs.lemmas.List.{drop_all}
 use Rattle.roam_pending.specs.PlainEntry.{PlainEntry}
-use Rattle.roam_tables.proofs.RealmLemmas.{get-read}
+use Rattle.roam_pending.proofs.RealmLemmas.{get-read}
 use Rattle.roam_realm.specs.RealmState.{RealmState}
 use Rattle.roam_exchange.specs.Rooms.{only_done_due}
 use Rattle.roam_exchange.specs.Turn.{sends}

@@ -8,8 +8,8 @@ use Rattle.std.proofs.lemmas.List.{get_or-set_same}
 use Rattle.roam_wire.specs.declared.refusal.NoMemory.{NoMemory}
 use Rattle.roam_pending.specs.EntryList.{IsEntryList}
 use Rattle.roam_pending.specs.PlainEntry.{PlainEntry}
-use Rattle.roam_tables.specs.Stands.{RealmView, entries_in, keeps_in}
-use Rattle.roam_tables.proofs.RealmLemmas.{get-set_other, get-set_same}
+use Rattle.roam_pending.specs.Stands.{RealmView, entries_in, keeps_in}
+use Rattle.roam_pending.proofs.RealmLemmas.{get-set_other, get-set_same}
 use Rattle.roam_conf.specs.declared.exchange_lines.ExchangeLines.{ExchangeLines}
 use Rattle.roam_exchange.specs.Happenings.{PlainHappening, tick_happening}
 use Rattle.roam_exchange.specs.HappeningsShown.{shown_happening}

@@ -13,8 +13,8 @@ use Rattle.roam_realm.specs.Stays.{KeepsButSessions}
 use Rattle.roam_realm.specs.declared.realm_numbers.RealmNumbers.{RealmNumbers}
 use Rattle.roam_sessions.specs.Sessions.{Session}
 use Rattle.roam_pending.specs.PlainEntry.{PlainEntry}
-use Rattle.roam_tables.specs.Stands.{RealmView, entries_in}
-use Rattle.roam_tables.proofs.RealmLemmas.{get-read}
+use Rattle.roam_pending.specs.Stands.{RealmView, entries_in}
+use Rattle.roam_pending.proofs.RealmLemmas.{get-read}
 use Rattle.roam_core.specs.Events.{is_in_shard}
 use Rattle.roam_core.specs.ManyRealms.{no_state}
 use Rattle.roam_core.proofs.PacketLemmas.{other_index, same_index}

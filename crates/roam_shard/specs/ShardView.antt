@@ -5,7 +5,7 @@ use Rattle.roam_conf.specs.Config.{ConfigView}
 use Rattle.roam_conf.specs.Shown.{shown}
 use Rattle.roam_pending.specs.EntryList.{IsEntryList}
 use Rattle.roam_pending.specs.PlainEntry.{PlainEntry}
-use Rattle.roam_tables.specs.Stands.{RealmView, entries_in}
+use Rattle.roam_pending.specs.Stands.{RealmView, entries_in}
 use Rattle.roam_realm.specs.RealmConfig.{realm_config}
 use Rattle.roam_realm.specs.RealmState.{RealmState, opening}
 use Rattle.roam_realm.specs.Sound.{IsSound, state_of}

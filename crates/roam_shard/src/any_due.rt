@@ -2,16 +2,15 @@
 
 ghost use Rattle.std.specs.Prelude.{◌≡◌, ◌≢◌, ◌≤◌, [], false, true, is_some, length};
 ghost use Rattle.roam_pending.specs.DueOrder.{due_list};
-ghost use Rattle.roam_tables.specs.Stands.{entries_in};
+ghost use Rattle.roam_pending.specs.Stands.{entries_in};
 ghost use Rattle.roam_exchange.specs.Rooms.{only_done_due};
 ghost use Rattle.roam_core.specs.ShardRooms.{only_done_from};
 ghost use Rattle.roam_shard.specs.ShardView.{HaveNumbers, OpeningView, state_seen, states_in};
 ghost use Rattle.roam_shard.specs.Turns.{NothingDue};
 
-use roam_pending::Entries;
+use roam_pending::{Entries, Tables};
 use roam_realm::RealmNumbers;
 use roam_rules::only_done_due;
-use roam_tables::Tables;
 use std::alloc::Allocator;
 
 /// Returns whether an entry of a realm is due, where the realm is one of the shard's own.

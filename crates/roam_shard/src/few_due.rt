@@ -2,15 +2,14 @@
 
 ghost use Rattle.std.specs.Prelude.{◌≡◌, ◌≢◌, ◌≤◌, [], false, is_some, length, IfNone, IfSome, true};
 ghost use Rattle.roam_pending.specs.DueOrder.{due_list};
-ghost use Rattle.roam_tables.specs.Stands.{entries_in};
+ghost use Rattle.roam_pending.specs.Stands.{entries_in};
 ghost use Rattle.roam_shard.specs.ShardView.{OpeningView, state_seen, states_in};
 ghost use Rattle.roam_shard.specs.Turns.{NothingDue};
 ghost use Rattle.roam_shard.specs.DueCount.{due_count};
 
 use crate::shard::Shard;
-use roam_pending::Entries;
+use roam_pending::{Entries, Tables};
 use roam_realm::RealmNumbers;
-use roam_tables::Tables;
 use std::alloc::Allocator;
 
 /// Returns how many entries of a realm are due; none where they are more than so many. It looks at no more of them.

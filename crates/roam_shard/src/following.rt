@@ -4,7 +4,7 @@ ghost use Rattle.std.specs.Prelude.{◌≡◌, ◌≢◌, ◌↔◌, ℕ, ◌<�
 ghost use Rattle.std.specs.Prelude.{vec_len};
 ghost use Rattle.roam_conf.specs.Shown.{shown};
 ghost use Rattle.roam_pending.specs.EntryList.{IsEntryList};
-ghost use Rattle.roam_tables.specs.Stands.{entries_in};
+ghost use Rattle.roam_pending.specs.Stands.{entries_in};
 ghost use Rattle.roam_realm.specs.RealmConfig.{realm_config};
 ghost use Rattle.roam_realm.specs.Sound.{IsSound};
 ghost use Rattle.roam_migrate.specs.Carrying.{AreChanged, IsReadyToCarry};
@@ -17,9 +17,9 @@ use crate::paused::Paused;
 use crate::realm_numbers::{begin_at, opened_at};
 use roam_conf::Config;
 use roam_migrate::{FreshLanes, carry_over, changed_peers, reserve_carry};
+use roam_pending::Tables;
 use roam_realm::{RealmNumbers, RealmSettings};
 use roam_reload::is_carried;
-use roam_tables::Tables;
 use roam_wire::NoMemory;
 use std::alloc::Allocator;
 

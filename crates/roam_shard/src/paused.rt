@@ -7,8 +7,8 @@ ghost use Rattle.roam_shard.specs.Pausing.{StandsUnder, opening_under, states_un
 use crate::opening::Opening;
 use crate::shard::Shard;
 use roam_conf::Config;
+use roam_pending::Tables;
 use roam_realm::{RealmNumbers, Start};
-use roam_tables::Tables;
 use std::alloc::Allocator;
 
 /// Paused: a shard that was taken from its configuration. It borrows nothing, and goes on under the configuration under

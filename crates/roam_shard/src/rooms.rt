@@ -2,7 +2,7 @@
 
 ghost use Rattle.std.specs.Prelude.{◌≡◌, ◌&&◌, [], not, IfOk};
 ghost use Rattle.roam_conf.specs.Shown.{shown};
-ghost use Rattle.roam_tables.specs.Stands.{entries_in};
+ghost use Rattle.roam_pending.specs.Stands.{entries_in};
 ghost use Rattle.roam_exchange.specs.Rooms.{only_done_due};
 ghost use Rattle.roam_core.specs.ShardRooms.{AreRooms, IsRealmRoom, most_of_all};
 ghost use Rattle.roam_shard.specs.Private.Rooms.{AllForLines, HasPlaces, IsForLines};
@@ -13,9 +13,9 @@ use crate::opening::Opening;
 use roam_conf::ExchangeLines;
 use roam_core::with_room;
 use roam_exchange::{Room, room_for};
+use roam_pending::Tables;
 use roam_realm::RealmNumbers;
 use roam_rules::only_done_due;
-use roam_tables::Tables;
 use roam_wire::NoMemory;
 use std::alloc::Allocator;
 

@@ -8,8 +8,9 @@ ghost use Rattle.roam_pending.specs.Shown.{shown_standing};
 
 use roam_conf::{Address, Endpoint, Link, Place};
 use roam_crypto::HashKey;
-use roam_pending::{Course, Done, Entries, Entry, Key, Request, Requester, Standing, Waiting};
-use roam_tables::Tables;
+use roam_pending::{
+    Course, Done, Entries, Entry, Key, Request, Requester, Standing, Tables, Waiting,
+};
 use roam_wire::{NoMemory, Octets};
 use std::alloc::{Allocator, Global};
 

@@ -4,7 +4,7 @@ use Rattle.std.proofs.lemmas.List.{length-map}
 use Rattle.roam_conf.specs.Config.{ConfigView}
 use Rattle.roam_conf.specs.Parts.{shown_realm}
 use Rattle.roam_conf.specs.Shown.{shown}
-use Rattle.roam_tables.proofs.RealmLemmas.{get-read}
+use Rattle.roam_pending.proofs.RealmLemmas.{get-read}
 use Rattle.roam_core.specs.Events.{is_in_shard}
 use Rattle.roam_history.specs.Audit.{steps_of}
 use Rattle.roam_hub.specs.Closing.{all_steps}

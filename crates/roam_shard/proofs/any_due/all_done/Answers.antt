@@ -1,5 +1,5 @@
 use Rattle.std.proofs.Common.{◌∙◌, ◌+◌, ◌&&◌, Bool, ap, drop, refl, sym}
-use Rattle.roam_tables.specs.Stands.{entries_in}
+use Rattle.roam_pending.specs.Stands.{entries_in}
 use Rattle.roam_core.specs.ShardRooms.{only_done_from}
 use Rattle.roam_shard.specs.ShardView.{states_from}
 use Rattle.roam_shard.proofs.LettingGoLemmas.{done-end, done-next}

@@ -1,5 +1,5 @@
 use Rattle.std.proofs.Common.{◌≡◌, drop}
-use Rattle.roam_tables.specs.Stands.{entries_in}
+use Rattle.roam_pending.specs.Stands.{entries_in}
 use Rattle.roam_core.specs.ShardRooms.{only_done_from}
 use Rattle.roam_shard.specs.ShardView.{HaveNumbers, OpeningView, states_from, states_in}
 use Rattle.roam_shard.proofs.any_due.all_done.Given as goal

@@ -1,6 +1,6 @@
 use Rattle.std.proofs.Common.{arith}
-use Rattle.roam_tables.specs.Stands.{entries_in}
-use Rattle.roam_tables.proofs.RealmLemmas.{get-read}
+use Rattle.roam_pending.specs.Stands.{entries_in}
+use Rattle.roam_pending.proofs.RealmLemmas.{get-read}
 use Rattle.roam_shard.proofs.DueLemmas.{none_more, nothing_due, own_none, within}
 use Rattle.roam_shard.proofs.any_due.any_due.Goals as goal
 

@@ -1,7 +1,7 @@
 use Rattle.std.proofs.Common.{◌≡◌, ℕ, ◌<◌, [], Some}
 use Rattle.std.specs.Prelude.{slice_get}
 use Rattle.roam_pending.specs.DueOrder.{due_list}
-use Rattle.roam_tables.specs.Stands.{entries_in}
+use Rattle.roam_pending.specs.Stands.{entries_in}
 use Rattle.roam_shard.proofs.any_due.any_due.Given as goal
 
 abbrev pub invariant-loop-realm : goal.invariant-loop-realm

@@ -1,7 +1,7 @@
 -- One realm more is counted.
 use Rattle.std.proofs.Common.{true, false, arith}
-use Rattle.roam_tables.specs.Stands.{entries_in}
-use Rattle.roam_tables.proofs.RealmLemmas.{get-read}
+use Rattle.roam_pending.specs.Stands.{entries_in}
+use Rattle.roam_pending.proofs.RealmLemmas.{get-read}
 use Rattle.roam_shard.proofs.DueLemmas.{own_none}
 use Rattle.roam_shard.proofs.FewLemmas.{count-end, count-next}
 use Rattle.roam_shard.proofs.few_due.all_few.Goals as goal

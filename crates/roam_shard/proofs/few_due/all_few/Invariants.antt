@@ -1,5 +1,5 @@
 use Rattle.std.proofs.Common.{◌≡◌, ◌+◌, drop}
-use Rattle.roam_tables.specs.Stands.{entries_in}
+use Rattle.roam_pending.specs.Stands.{entries_in}
 use Rattle.roam_shard.specs.ShardView.{OpeningView, states_from, states_in}
 use Rattle.roam_shard.specs.DueCount.{due_count}
 use Rattle.roam_shard.proofs.few_due.all_few.Given as goal

@@ -1,6 +1,6 @@
 -- Those that are due are counted one after the other.
 use Rattle.std.proofs.Common.{arith}
-use Rattle.roam_tables.specs.Stands.{entries_in}
+use Rattle.roam_pending.specs.Stands.{entries_in}
 use Rattle.roam_rules.proofs.LettingGoLemmas.{fewer-left}
 use Rattle.roam_shard.proofs.FewLemmas.{all_counted, more_counted, none_counted, some_found}
 use Rattle.roam_shard.proofs.few_due.few_of.Goals as goal

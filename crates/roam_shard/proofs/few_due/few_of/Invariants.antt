@@ -1,7 +1,7 @@
 use Rattle.std.proofs.Common.{◌≤◌, length}
 use Rattle.std.specs.List.{filter}
 use Rattle.roam_pending.specs.DueOrder.{due_list, is_after}
-use Rattle.roam_tables.specs.Stands.{entries_in}
+use Rattle.roam_pending.specs.Stands.{entries_in}
 use Rattle.roam_shard.proofs.FewLemmas.{AreCounted}
 use Rattle.roam_shard.proofs.few_due.few_of.Given as goal
 

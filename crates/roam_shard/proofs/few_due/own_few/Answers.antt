@@ -1,7 +1,7 @@
 -- A realm of another shard has no entry.
 use Rattle.std.proofs.Common.{true, not, ap, ◌∙◌}
 use Rattle.std.proofs.lemmas.Option.{IfSome_then}
-use Rattle.roam_tables.specs.Stands.{entries_in}
+use Rattle.roam_pending.specs.Stands.{entries_in}
 use Rattle.roam_shard.proofs.FewLemmas.{none_of_others, none_then, own_count}
 use Rattle.roam_shard.proofs.few_due.own_few.Goals as goal
 

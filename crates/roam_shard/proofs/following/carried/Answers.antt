@@ -3,7 +3,7 @@ use Rattle.std.proofs.Common.{◌∙◌, ap, sym, arith}
 use Rattle.std.proofs.lemmas.List.{length-map}
 use Rattle.roam_conf.specs.Parts.{shown_realm}
 use Rattle.roam_conf.specs.Shown.{shown}
-use Rattle.roam_tables.specs.Stands.{entries_in}
+use Rattle.roam_pending.specs.Stands.{entries_in}
 use Rattle.roam_realm.specs.RealmConfig.{RealmConfig}
 use Rattle.roam_shard.proofs.FollowLemmas.{here_within}
 use Rattle.roam_shard.proofs.OverLemmas.{distinct_in, gone_by}

@@ -1,7 +1,7 @@
 -- Entries of a realm that goes on stay, and the others' are taken out.
 use Rattle.std.proofs.Common.{◌≡◌, ◌∙◌, ◌+◌, List, length, refl, ap, sym, subst}
 use Rattle.roam_conf.specs.Shown.{shown}
-use Rattle.roam_tables.specs.Stands.{RealmView, entries_in}
+use Rattle.roam_pending.specs.Stands.{RealmView, entries_in}
 use Rattle.roam_shard.proofs.FollowLemmas.{Cleared, one_cleared, one_stays}
 use Rattle.roam_shard.proofs.following.clear_others.Goals.{then-not-goes_on, else-not-goes_on}
 use Rattle.roam_shard.proofs.following.clear_others.Goals as goal

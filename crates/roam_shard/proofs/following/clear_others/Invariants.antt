@@ -1,6 +1,6 @@
 use Rattle.std.proofs.Common.{◌≡◌, length}
 use Rattle.roam_conf.specs.Shown.{shown}
-use Rattle.roam_tables.specs.Stands.{entries_in}
+use Rattle.roam_pending.specs.Stands.{entries_in}
 use Rattle.roam_shard.proofs.FollowLemmas.{Cleared}
 use Rattle.roam_shard.proofs.following.clear_others.Given as goal
 

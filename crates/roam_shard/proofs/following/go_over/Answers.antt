@@ -2,8 +2,8 @@
 use Rattle.std.proofs.Common.{◌≡◌, ◌∙◌, Some, None, inl, inr, sym, refl, ap}
 use Rattle.std.specs.Prelude.{Option, slice_get, unwrap_or}
 use Rattle.roam_conf.specs.Shown.{shown}
-use Rattle.roam_tables.specs.Stands.{entries_in}
-use Rattle.roam_tables.proofs.RealmLemmas.{get-read, get-set_other}
+use Rattle.roam_pending.specs.Stands.{entries_in}
+use Rattle.roam_pending.proofs.RealmLemmas.{get-read, get-set_other}
 use Rattle.roam_realm.specs.declared.realm_numbers.RealmNumbers.{RealmNumbers}
 use Rattle.roam_shard.proofs.OverLemmas.{over_from, ready_from, sound_from}
 use Rattle.roam_shard.proofs.following.go_over.Goals as goal

@@ -3,7 +3,7 @@ use Rattle.std.proofs.Common.{◌≡◌, ℕ, suc, ◌+◌, ◌<◌, ◌∙◌, 
 use Rattle.std.specs.Prelude.{slice_get}
 use Rattle.std.specs.Vec.Iter.{into_iter_items}
 use Rattle.roam_conf.specs.Shown.{shown}
-use Rattle.roam_tables.proofs.RealmLemmas.{get-read}
+use Rattle.roam_pending.proofs.RealmLemmas.{get-read}
 use Rattle.roam_shard.specs.Follow.{AllFollow}
 use Rattle.roam_shard.specs.Pausing.{states_under}
 use Rattle.roam_shard.proofs.FollowingHubLemmas.{all_followed, none_followed, one_more_followed}

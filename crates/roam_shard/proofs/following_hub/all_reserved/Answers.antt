@@ -1,7 +1,7 @@
 -- Memory is taken for one shard after the other.
 use Rattle.std.proofs.Common.{◌<◌, length, refl, arith}
 use Rattle.roam_conf.specs.Shown.{shown}
-use Rattle.roam_tables.proofs.RealmLemmas.{get-read}
+use Rattle.roam_pending.proofs.RealmLemmas.{get-read}
 use Rattle.roam_shard.proofs.FollowingHubLemmas.{all_ready, none_ready, one_more_ready, still_one}
 use Rattle.roam_shard.proofs.following_hub.all_reserved.Goals as goal
 

@@ -2,7 +2,7 @@
 use Rattle.std.proofs.Common.{◌<◌, length, ◌∙◌, arith}
 use Rattle.std.specs.List.{insert}
 use Rattle.roam_conf.specs.Shown.{shown}
-use Rattle.roam_tables.proofs.RealmLemmas.{get-read}
+use Rattle.roam_pending.proofs.RealmLemmas.{get-read}
 use Rattle.roam_shard.proofs.LosingLemmas.{loss_there, put_back}
 use Rattle.roam_shard.proofs.losses.loss_of.Goals as goal
 

@@ -3,7 +3,7 @@ use Rattle.std.proofs.Common.{◌∙◌, length, vec_len, arith}
 use Rattle.std.proofs.lemmas.List.{length-map}
 use Rattle.roam_conf.specs.Parts.{shown_realm}
 use Rattle.roam_conf.specs.Shown.{shown}
-use Rattle.roam_tables.specs.Stands.{entries_in}
+use Rattle.roam_pending.specs.Stands.{entries_in}
 use Rattle.roam_shard.proofs.FollowLemmas.{AreReady, cleared_to}
 use Rattle.roam_shard.proofs.FollowedLemmas.{all_follow, can_go, followed_shard, within_before}
 use Rattle.roam_shard.proofs.paused.Paused.follow.Goals as goal

@@ -3,7 +3,7 @@ use Rattle.std.proofs.Common.{ℕ, List, length, ap, sym, subst, arith}
 use Rattle.std.proofs.lemmas.List.{length-map}
 use Rattle.roam_conf.specs.Parts.{shown_realm}
 use Rattle.roam_conf.specs.Shown.{shown}
-use Rattle.roam_tables.specs.Stands.{RealmView}
+use Rattle.roam_pending.specs.Stands.{RealmView}
 use Rattle.roam_shard.specs.Pausing.{IsReadyAt}
 use Rattle.roam_shard.proofs.FollowLemmas.{more_realms_still, none_ready, one_ready, still_then}
 use Rattle.roam_shard.proofs.paused.Paused.reserve.Goals as goal

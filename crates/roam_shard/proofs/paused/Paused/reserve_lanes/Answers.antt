@@ -3,7 +3,7 @@ use Rattle.std.proofs.Common.{◌≡◌, ◌∙◌, Some, refl, arith}
 use Rattle.std.specs.Prelude.{slice_get}
 use Rattle.std.proofs.lemmas.Result.{IfOk-weaker}
 use Rattle.roam_conf.specs.Shown.{shown}
-use Rattle.roam_tables.proofs.RealmLemmas.{get-set_other}
+use Rattle.roam_pending.proofs.RealmLemmas.{get-set_other}
 use Rattle.roam_shard.specs.Pausing.{opening_under}
 use Rattle.roam_shard.proofs.FollowLemmas.{StandFor, here_within, not_none, read_there, ready_lanes, reserved_shard, reserved_states, still_own, within_numbers}
 use Rattle.roam_shard.proofs.paused.Paused.reserve_lanes.Given.{Over}

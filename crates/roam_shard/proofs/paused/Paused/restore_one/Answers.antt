@@ -3,8 +3,8 @@ use Rattle.std.proofs.Common.{◌≡◌, ◌∙◌, ◌∷◌, [], ℕ, Some, ap
 use Rattle.std.proofs.lemmas.List.{length-map}
 use Rattle.roam_conf.specs.Parts.{shown_realm}
 use Rattle.roam_conf.specs.Shown.{shown}
-use Rattle.roam_tables.specs.Stands.{entries_in}
-use Rattle.roam_tables.proofs.RealmLemmas.{get-read}
+use Rattle.roam_pending.specs.Stands.{entries_in}
+use Rattle.roam_pending.proofs.RealmLemmas.{get-read}
 use Rattle.roam_shard.specs.Pausing.{opening_under, states_under}
 use Rattle.roam_shard.specs.Restoring.{with_one}
 use Rattle.roam_realm.specs.RealmConfig.{RealmConfig, realm_config}

@@ -1,6 +1,6 @@
 use Rattle.std.proofs.Common.{◌≡◌, ◌<◌, ◌≤◌, ◌^◌, Some, true, length, ap, sym, subst, ◌∙◌, arith}
-use Rattle.roam_tables.specs.Stands.{entries_in}
-use Rattle.roam_tables.proofs.RealmLemmas.{get-read}
+use Rattle.roam_pending.specs.Stands.{entries_in}
+use Rattle.roam_pending.proofs.RealmLemmas.{get-read}
 use Rattle.roam_realm.specs.RealmState.{RealmState}
 use Rattle.roam_core.specs.Events.{is_in_shard}
 use Rattle.roam_core.specs.ManyRealms.{state_at}

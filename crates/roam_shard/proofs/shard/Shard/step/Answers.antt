@@ -7,7 +7,7 @@ use Rattle.roam_conf.specs.Parts.{shown_realm}
 use Rattle.roam_admission.specs.Events.{IsEvent}
 use Rattle.roam_admission.specs.Shown.{shown_job}
 use Rattle.roam_admission.proofs.EventLemmas.{event_realm}
-use Rattle.roam_tables.proofs.RealmLemmas.{get-read}
+use Rattle.roam_pending.proofs.RealmLemmas.{get-read}
 use Rattle.roam_wire.specs.Packet.{AreOctets}
 use Rattle.roam_exchange.specs.Happenings.{event_happening}
 use Rattle.roam_exchange.specs.OneRealm.{event_of, on_event}

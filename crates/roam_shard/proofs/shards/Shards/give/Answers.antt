@@ -7,7 +7,7 @@ use Rattle.roam_admission.specs.Events.{IsEvent}
 use Rattle.roam_admission.specs.Shown.{shown_job}
 use Rattle.roam_admission.specs.Admission.{admitted}
 use Rattle.roam_admission.proofs.EventLemmas.{event_realm}
-use Rattle.roam_tables.proofs.RealmLemmas.{get-read}
+use Rattle.roam_pending.proofs.RealmLemmas.{get-read}
 use Rattle.roam_core.specs.BrokerView.{BrokerView}
 use Rattle.roam_core.specs.Events.{is_in_shard}
 use Rattle.roam_core.specs.ManyRealms.{to_arrival}

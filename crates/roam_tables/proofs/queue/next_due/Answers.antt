@@ -1,5 +1,0 @@
-use Rattle.roam_tables.proofs.DueRunLemmas.{next_of}
-use Rattle.roam_tables.proofs.queue.next_due.Goals as goal
-
-pub returns : goal.returns
-returns g c = next_of c.args.last c.args.run.now.items c.after.result c.after.ensures
