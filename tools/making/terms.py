@@ -20,7 +20,7 @@ TIES = [
     (("roam_crypto", "Hiding", "hidden_anew"), ("roam_crypto", "HidingLaws", "OneTextAnew")),
     (("roam_crypto", "SaltedFunctions", "salted_hidden_anew"), ("roam_crypto", "SaltedLaws", "OneAttributeAnew")),
     (("roam_crypto", "Salted", "is_salted"), ("roam_crypto", "SaltedLaws", "SaltedIsDecided")),
-    (("roam_ids", "NextIdentifier", "next_identifier"), ("roam_ids", "Laws", "AnswersTheNext")),
+    (("roam_realm", "NextIdentifier", "next_identifier"), ("roam_realm", "Laws", "AnswersTheNext")),
     (("roam_reply", "ReplyCheck", "reply_fault"), ("roam_reply", "ReplyCheck", "TakenHasNoFault")),
 ]
 

@@ -16,7 +16,7 @@ use Rattle.roam_pending.proofs.OrderLemmas.{list-without}
 use Rattle.roam_pending.proofs.ChangeLemmas.{put-without}
 use Rattle.roam_admission.specs.Admission.{PlainOut}
 use Rattle.roam_admission.specs.Shown.{shown_out}
-use Rattle.roam_ids.specs.LaneState.{LaneState}
+use Rattle.roam_realm.specs.LaneState.{LaneState}
 use Rattle.roam_exchange.specs.declared.due_action.DueAction.{DueAction}
 use Rattle.roam_exchange.specs.declared.due_action.DueAction.TheVariants as action
 use Rattle.roam_sessions.specs.ShownSessions.{Ledger}

@@ -2,7 +2,7 @@
 use Rattle.std.proofs.Common.{◌≡◌, ℕ, ◌-◌, ◌<◌, ◌≤◌, ◌^◌, Bool, true, false, List, ◌++◌, Option, Some, None, length, replicate, nat_lt, vec_capacity, sym, ap, subst, ◌∙◌, if◌then◌else◌}
 use Rattle.std.specs.List.{AllByRecursion, filter_map}
 use Rattle.std.proofs.lemmas.List.{length-map}
-use Rattle.roam_ids.specs.LaneState.{LaneState}
+use Rattle.roam_realm.specs.LaneState.{LaneState}
 use Rattle.roam_pending.specs.EntryList.{IsInOrder}
 use Rattle.roam_pending.specs.PlainEntry.{PlainEntry}
 use Rattle.roam_reload.specs.Kept.{KeepsSources}

@@ -5,7 +5,7 @@ use Rattle.std.specs.Option.{IfNone, IfSome, option_and_then}
 use Rattle.std.proofs.lemmas.Bool.Decides.{nat_tests}
 use Rattle.std.proofs.lemmas.Nat.{mul-le}
 use Rattle.roam_conf.specs.declared.place.Link.{Link}
-use Rattle.roam_ids.specs.LaneState.{LaneState}
+use Rattle.roam_realm.specs.LaneState.{LaneState}
 use Rattle.roam_pending.specs.EntryList.{find_ticket, first_done, without}
 use Rattle.roam_pending.specs.PlainEntry.{PlainEntry, waiting, waits_at}
 use Rattle.roam_pending.specs.Realms.{RealmBecomes, with_ends}

@@ -4,7 +4,7 @@ use Rattle.std.specs.List.{AllByRecursion}
 use Rattle.std.proofs.lemmas.Bool.{cases_Bool, cases_eq}
 use Rattle.std.proofs.lemmas.Option.{same_Some}
 use Rattle.roam_conf.specs.declared.place.Link.{Link}
-use Rattle.roam_ids.specs.LaneState.{LaneState}
+use Rattle.roam_realm.specs.LaneState.{LaneState}
 use Rattle.roam_pending.specs.EntryList.{IsInOrder, find_ticket, first_done, without}
 use Rattle.roam_pending.specs.PlainEntry.{PlainEntry, is_done}
 use Rattle.roam_pending.proofs.ChangeLemmas.{found-ticket, length-without}

@@ -6,7 +6,7 @@ use Rattle.std.proofs.lemmas.Nat.{mul-add-lt, mul-le}
 use Rattle.std.proofs.lemmas.List.{get_or-append_right, get_or-replicate, get_or-take, get_or_past, length-map}
 use Rattle.roam_conf.specs.declared.place.Link.{Link}
 use Rattle.roam_conf.specs.declared.place.Link.TheVariants as link
-use Rattle.roam_ids.specs.LaneState.{LaneState, place_at}
+use Rattle.roam_realm.specs.LaneState.{LaneState, place_at}
 use Rattle.roam_reload.specs.Kept.{keeps_coa, of_peer}
 use Rattle.roam_realm.specs.RealmConfig.{IsLink, RealmConfig, link_count, link_place, server_link_count}
 use Rattle.roam_realm.specs.Sound.{AreOwnLanes, Mark, cursors_of, lane_of, marks_of, no_lane, own_tags}

@@ -8,7 +8,7 @@ use Rattle.std.proofs.lemmas.Nat.{div-add-mod', div_below, mod_below, mul-le}
 use Rattle.roam_conf.specs.Lookup.{out_of}
 use Rattle.roam_conf.specs.declared.place.Link.{Link}
 use Rattle.roam_conf.specs.declared.place.Link.TheVariants as link
-use Rattle.roam_ids.specs.LaneState.{LaneState}
+use Rattle.roam_realm.specs.LaneState.{LaneState}
 use Rattle.roam_realm.specs.Private.Ends.{IsEnd}
 use Rattle.roam_realm.specs.RealmConfig.{IsLink, RealmConfig, end_place, link_count, link_place, server_link_count}
 use Rattle.roam_realm.specs.Sound.{Mark, cursors_of, mark_of, marks_of, no_lane, own_tags}

@@ -6,9 +6,9 @@ use Rattle.std.proofs.lemmas.Bool.{cases_Bool}
 use Rattle.std.proofs.lemmas.List.{get_or_past, length-map}
 use Rattle.std.proofs.lemmas.Option.{same_Some}
 use Rattle.roam_conf.specs.declared.place.Link.{Link}
-use Rattle.roam_ids.specs.LaneState.{LaneState, is_used, place_at, ticket_at}
-use Rattle.roam_ids.specs.Standing.{is_in_use, ticket_of}
-use Rattle.roam_ids.specs.declared.id_state.IdState.{IdState}
+use Rattle.roam_realm.specs.LaneState.{LaneState, is_used, place_at, ticket_at}
+use Rattle.roam_realm.specs.Standing.{is_in_use, ticket_of}
+use Rattle.roam_realm.specs.declared.id_state.IdState.{IdState}
 use Rattle.roam_pending.specs.EntryList.{IsInOrder, find_ticket}
 use Rattle.roam_pending.specs.PlainEntry.{PlainEntry, PlainRequest, PlainStanding, waiting, done, same_link, stands_at, waits_at}
 use Rattle.roam_realm.specs.RealmConfig.{IsLink, RealmConfig, link_count, link_place}

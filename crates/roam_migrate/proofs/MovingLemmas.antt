@@ -4,8 +4,8 @@ use Rattle.std.specs.Option.{option_map_or}
 use Rattle.std.proofs.lemmas.Bool.{cases_lt}
 use Rattle.std.proofs.lemmas.List.{get_or_default, get_or-replicate, get_or-set_other, get_or-set_same, get_or_past, length-set}
 use Rattle.roam_conf.specs.declared.place.Link.{Link}
-use Rattle.roam_ids.specs.LaneState.{LaneState, place_at, with_tag}
-use Rattle.roam_ids.specs.declared.id_state.IdState.TheVariants.{Free}
+use Rattle.roam_realm.specs.LaneState.{LaneState, place_at, with_tag}
+use Rattle.roam_realm.specs.declared.id_state.IdState.TheVariants.{Free}
 use Rattle.roam_realm.specs.RealmConfig.{IsLink, RealmConfig, link_count, link_place}
 use Rattle.roam_realm.specs.Sound.{AreOwnLanes, cursors_of, lane_of, marks_of, no_lane}
 use Rattle.roam_migrate.specs.Carrying.{HaveDistinctServers}

@@ -4,8 +4,8 @@ use Rattle.std.proofs.lemmas.Bool.{cases_eq}
 use Rattle.std.proofs.lemmas.List.{get_or-set_other, get_or-set_same, length-set}
 use Rattle.std.proofs.lemmas.Nat.{same_from_place}
 use Rattle.roam_conf.specs.declared.place.Link.TheVariants as link
-use Rattle.roam_ids.specs.LaneState.{LaneState, place_at}
-use Rattle.roam_ids.specs.declared.id_state.IdState.TheVariants.{Free}
+use Rattle.roam_realm.specs.LaneState.{LaneState, place_at}
+use Rattle.roam_realm.specs.declared.id_state.IdState.TheVariants.{Free}
 use Rattle.roam_reload.specs.Kept.{keeps_coa, of_peer}
 use Rattle.roam_realm.specs.RealmConfig.{RealmConfig, link_count, server_link_count}
 use Rattle.roam_realm.specs.Sound.{no_lane}

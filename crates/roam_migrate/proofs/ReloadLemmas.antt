@@ -12,8 +12,8 @@ use Rattle.roam_forward.specs.Shaped.{CanBeShaped, Shaping}
 use Rattle.roam_admission.specs.Shapings.{shaping_between}
 use Rattle.roam_conf.specs.declared.place.Link.{Link}
 use Rattle.roam_conf.specs.declared.place.Link.TheVariants as link
-use Rattle.roam_ids.specs.LaneState.{LaneState, place_at}
-use Rattle.roam_ids.specs.declared.id_state.IdState.TheVariants.{Free}
+use Rattle.roam_realm.specs.LaneState.{LaneState, place_at}
+use Rattle.roam_realm.specs.declared.id_state.IdState.TheVariants.{Free}
 use Rattle.roam_pending.specs.declared.key.Requester.{Requester}
 use Rattle.roam_pending.specs.declared.key.Requester.TheVariants as requester
 use Rattle.roam_pending.specs.PlainEntry.{PlainEntry, PlainRequest, PlainStanding, waiting, done, has_ticket, same_link, stands_at}

@@ -22,7 +22,7 @@ use Rattle.roam_conf.specs.declared.place.Place.TheVariants as place
 use Rattle.roam_forward.specs.Removal.{without_sessions}
 use Rattle.roam_forward.specs.Forwarded.{Forwarding, forwarded}
 use Rattle.roam_forward.specs.Shaped.{no_shaping, shaped}
-use Rattle.roam_ids.specs.NextIdentifier.{next_identifier}
+use Rattle.roam_realm.specs.NextIdentifier.{next_identifier}
 use Rattle.roam_pending.specs.declared.due.Due.{Due}
 use Rattle.roam_pending.specs.declared.key.Requester.{Requester}
 use Rattle.roam_pending.specs.declared.key.Requester.TheVariants as requester

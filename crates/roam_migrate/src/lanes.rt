@@ -1,7 +1,7 @@
 //! The lanes of a realm that goes on under another part of a configuration.
 
 ghost use Rattle.std.specs.Prelude.{◌≡◌, ◌↔◌, ◌<◌, ◌≤◌, ◌+◌, ◌∷◌, [], IfNone, IfOk, IfSome, IsTrue, List, false, length, true, vec_capacity};
-ghost use Rattle.roam_ids.specs.LaneState.{LaneState, with_tag};
+ghost use Rattle.roam_realm.specs.LaneState.{LaneState, with_tag};
 ghost use Rattle.roam_reload.specs.Kept.{keeps_coa, of_peer};
 ghost use Rattle.roam_conf.specs.Lookup.{out_of};
 ghost use Rattle.roam_realm.specs.RealmConfig.{IsLink, end_place, link_count, link_place, server_link_count};
@@ -15,8 +15,7 @@ use crate::ends::way_before;
 use crate::reload::add_lanes;
 use crate::rests::take_rests;
 use roam_conf::Link;
-use roam_ids::LazyLane;
-use roam_realm::{RealmNumbers, RealmSettings, Rest, new_lanes, new_rests, tag_of};
+use roam_realm::{LazyLane, RealmNumbers, RealmSettings, Rest, new_lanes, new_rests, tag_of};
 use roam_reload::{has_same_outs, has_same_servers, peer_keeps_coa};
 use roam_wire::NoMemory;
 use std::alloc::Allocator;

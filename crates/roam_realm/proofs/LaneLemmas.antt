@@ -6,9 +6,9 @@ use Rattle.std.specs.Option.{option_map_or, option_or}
 use Rattle.std.proofs.Math.ListN as lists
 use Rattle.std.proofs.lemmas.Bool.{cases_Bool}
 use Rattle.roam_conf.specs.declared.place.Link.{Link}
-use Rattle.roam_ids.specs.LaneState.{LaneState, is_used}
-use Rattle.roam_ids.specs.NextIdentifier.{next_identifier}
-use Rattle.roam_ids.proofs.NextIdentifierLemmas.{next_identifier-is_next, next_identifier-same}
+use Rattle.roam_realm.specs.LaneState.{LaneState, is_used}
+use Rattle.roam_realm.specs.NextIdentifier.{next_identifier}
+use Rattle.roam_realm.proofs.NextIdentifierLemmas.{next_identifier-is_next, next_identifier-same}
 use Rattle.roam_pending.specs.PlainEntry.{PlainRequest, PlainEntry, PlainStanding, stands_at, stands_done, waiting, done, waits_at, same_link, is_done}
 use Rattle.roam_pending.specs.EntryList.{IsInOrder, IsEntryList, find_ticket, find_link, without, put}
 use Rattle.roam_pending.specs.Realms.{sent_again, waits_on}

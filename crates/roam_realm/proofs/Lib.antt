@@ -12,3 +12,9 @@ pub mod UsedLemmas
 pub mod WaitingLemmas
 pub mod WaysToLemmas
 pub mod WrittenLemmas
+pub mod NextIdentifierLemmas
+pub mod WordLemmas
+pub mod SearchLemmas
+pub mod LaneStateLemmas
+pub mod WorkedFacts
+pub mod LazyLemmas

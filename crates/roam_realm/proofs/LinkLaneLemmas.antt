@@ -5,12 +5,12 @@ use Rattle.std.proofs.lemmas.Nat.{mul-le, same_from_place}
 use Rattle.std.proofs.lemmas.List.{get_or_default, length-map, map-set, set-get_or}
 use Rattle.std.proofs.Math.Seq.{map-set_same}
 use Rattle.roam_conf.specs.declared.place.Link.{Link}
-use Rattle.roam_ids.specs.declared.id_state.IdState.{IdState}
-use Rattle.roam_ids.specs.declared.id_state.IdState.TheVariants.{Free, Out, Parked}
-use Rattle.roam_ids.specs.LaneState.{LaneState, is_used, put_at, cursor_past}
-use Rattle.roam_ids.specs.Making.{with_memory}
-use Rattle.roam_ids.specs.NextIdentifier.{AllUsed, IsNextIdentifier, next_identifier}
-use Rattle.roam_ids.proofs.NextIdentifierLemmas.{next_identifier-is_next, below_256}
+use Rattle.roam_realm.specs.declared.id_state.IdState.{IdState}
+use Rattle.roam_realm.specs.declared.id_state.IdState.TheVariants.{Free, Out, Parked}
+use Rattle.roam_realm.specs.LaneState.{LaneState, is_used, put_at, cursor_past}
+use Rattle.roam_realm.specs.Making.{with_memory}
+use Rattle.roam_realm.specs.NextIdentifier.{AllUsed, IsNextIdentifier, next_identifier}
+use Rattle.roam_realm.proofs.NextIdentifierLemmas.{next_identifier-is_next, below_256}
 use Rattle.roam_realm.specs.declared.service.Service.{Service}
 use Rattle.roam_realm.specs.declared.service.Service.TheVariants as service
 use Rattle.roam_realm.specs.RealmConfig.{RealmConfig, IsLink, end_place, link_place, server_link}

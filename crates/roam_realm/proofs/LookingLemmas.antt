@@ -1,7 +1,7 @@
 -- How many Identifiers of a lane are in use.
 use Rattle.std.proofs.Common.{arith, ◌≡◌, ◌∙◌, ℕ, zero, suc, ◌+◌, Bool, false, refl, ap}
 use Rattle.std.specs.Prelude.{is_some, if◌then◌else◌, None}
-use Rattle.roam_ids.specs.LaneState.{LaneState, ticket_at}
+use Rattle.roam_realm.specs.LaneState.{LaneState, ticket_at}
 use Rattle.roam_realm.specs.Private.Looking.{used_below}
 
 pub none-below : (lane : LaneState) → used_below lane 0 ≡ 0

@@ -9,7 +9,7 @@ use Rattle.roam_pending.specs.EntryList.{find_link, find_ticket, put, without}
 use Rattle.roam_pending.proofs.TestLemmas.{differs, pair_decides, all-filter, all-find, all-weaker}
 use Rattle.roam_pending.proofs.OrderLemmas.{all-put}
 use Rattle.roam_realm.specs.RealmConfig.{RealmConfig}
-use Rattle.roam_ids.specs.LaneState.{LaneState}
+use Rattle.roam_realm.specs.LaneState.{LaneState}
 use Rattle.roam_sessions.specs.ShownSessions.{Ledger}
 use Rattle.roam_realm.specs.Sound.{AreOwnLanes, IsEntry, IsSound, LanesTell, marks_of}
 use Rattle.roam_realm.specs.Stays.{RestsBecome}

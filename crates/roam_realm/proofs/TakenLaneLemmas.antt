@@ -2,12 +2,12 @@
 use Rattle.std.proofs.Common.{◌≡◌, ◌≢◌, ◌⊎◌, ℕ, ◌<◌, ◌&&◌, ◌==◌, Bool, true, false, List, Option, Some, None, is_some, refl, ap, sym, ◌∙◌, subst, arith, eqb, eqb-true, inl, inr, get_or, set, length, get_or-set_same, get_or-set_other, length-set}
 use Rattle.std.proofs.lemmas.Bool.{cases_Bool, cases_eq}
 use Rattle.roam_conf.specs.declared.place.Link.{Link}
-use Rattle.roam_ids.specs.declared.id_state.IdState.{IdState}
-use Rattle.roam_ids.specs.declared.id_state.IdState.TheVariants.{Free, Out, Parked}
-use Rattle.roam_ids.specs.LaneState.{LaneState, HasIdentifiers, is_used, place_at, ticket_at, put_at, cursor_past}
-use Rattle.roam_ids.specs.Standing.{is_in_use, ticket_of}
-use Rattle.roam_ids.specs.NextIdentifier.{IsNextIdentifier, next_identifier}
-use Rattle.roam_ids.proofs.NextIdentifierLemmas.{next_identifier-is_next, below_256}
+use Rattle.roam_realm.specs.declared.id_state.IdState.{IdState}
+use Rattle.roam_realm.specs.declared.id_state.IdState.TheVariants.{Free, Out, Parked}
+use Rattle.roam_realm.specs.LaneState.{LaneState, HasIdentifiers, is_used, place_at, ticket_at, put_at, cursor_past}
+use Rattle.roam_realm.specs.Standing.{is_in_use, ticket_of}
+use Rattle.roam_realm.specs.NextIdentifier.{IsNextIdentifier, next_identifier}
+use Rattle.roam_realm.proofs.NextIdentifierLemmas.{next_identifier-is_next, below_256}
 use Rattle.roam_pending.specs.PlainEntry.{PlainEntry, PlainStanding, waiting, done, stands_at, waits_at, same_link}
 use Rattle.roam_pending.specs.EntryList.{find_ticket, put, without}
 use Rattle.roam_pending.proofs.TestLemmas.{same, differs}

@@ -4,8 +4,8 @@ use Rattle.std.specs.List.{AllByRecursion, find}
 use Rattle.std.specs.Option.{option_map_or}
 use Rattle.std.proofs.lemmas.Bool.{cases_Bool, cases_eq}
 use Rattle.roam_conf.specs.declared.place.Link.{Link}
-use Rattle.roam_ids.specs.LaneState.{LaneState, is_used, ticket_at}
-use Rattle.roam_ids.specs.NextIdentifier.{IsNextIdentifier}
+use Rattle.roam_realm.specs.LaneState.{LaneState, is_used, ticket_at}
+use Rattle.roam_realm.specs.NextIdentifier.{IsNextIdentifier}
 use Rattle.roam_pending.specs.PlainEntry.{PlainEntry, waits_at, has_ticket}
 use Rattle.roam_pending.specs.EntryList.{IsInOrder, find_ticket, find_link, without}
 use Rattle.roam_pending.proofs.TestLemmas.{same, all-find}

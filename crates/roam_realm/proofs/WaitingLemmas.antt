@@ -4,7 +4,7 @@ use Rattle.std.specs.Option.{option_map_or, option_or}
 use Rattle.std.proofs.lemmas.Bool.{cases_eq}
 use Rattle.std.proofs.lemmas.List.Folds.{find-append}
 use Rattle.roam_conf.specs.declared.place.Link.{Link}
-use Rattle.roam_ids.specs.LaneState.{LaneState}
+use Rattle.roam_realm.specs.LaneState.{LaneState}
 use Rattle.roam_pending.specs.PlainEntry.{PlainEntry, waits_at, has_ticket}
 use Rattle.roam_pending.specs.EntryList.{find_ticket, without, put, below, above}
 use Rattle.roam_pending.proofs.TestLemmas.{differs, less, not_less, compared}

@@ -10,5 +10,13 @@ pub mod Saving
 pub mod Written
 pub mod Sound
 pub mod Stays
+pub mod IdSlot
+pub mod LaneState
+pub mod Laws
+pub mod Making
+pub mod NextIdentifier
+pub mod Standing
+pub mod Taking
+pub mod Marks
 -- Words that no contract of a public call names: those of private functions and of invariants.
 pub mod Private

@@ -3,7 +3,7 @@ use Rattle.std.specs.Prelude.{ℕ, ◌+◌, ◌==◌, Bool, not, List, [], ◌�
 use Rattle.std.specs.List.{filter, list_any}
 use Rattle.std.specs.Option.{option_or}
 use Rattle.roam_conf.specs.declared.place.Link.{Link}
-use Rattle.roam_ids.specs.NextIdentifier.{next_identifier}
+use Rattle.roam_realm.specs.NextIdentifier.{next_identifier}
 use Rattle.roam_pending.specs.PlainEntry.{PlainEntry}
 use Rattle.roam_pending.specs.EntryList.{identifiers_on}
 use Rattle.roam_sessions.specs.Sessions.{Session}

@@ -10,8 +10,8 @@ use Rattle.roam_wire.specs.Reading.{IsPacketText, packet_of}
 use Rattle.roam_conf.specs.declared.place.Link.{Link}
 use Rattle.roam_forward.specs.Forwarded.{CanBeForwarded}
 use Rattle.roam_forward.specs.Shaped.{CanBeShaped}
-use Rattle.roam_ids.specs.LaneState.{LaneState, is_used, ticket_at}
-use Rattle.roam_ids.specs.NextIdentifier.{next_identifier}
+use Rattle.roam_realm.specs.LaneState.{LaneState, is_used, ticket_at}
+use Rattle.roam_realm.specs.NextIdentifier.{next_identifier}
 use Rattle.roam_pending.specs.declared.key.Requester.{Requester}
 use Rattle.roam_pending.specs.declared.key.Requester.TheVariants as requester
 use Rattle.roam_pending.specs.PlainEntry.{PlainRequest, PlainStanding, PlainEntry, waiting, done, waits_at, same_link}

@@ -3,9 +3,9 @@
 ghost use Rattle.std.specs.Prelude.{◌≡◌, ◌≤◌, length, if◌then◌else◌};
 ghost use Rattle.roam_realm.specs.Private.Looking.{used_below};
 
+use crate::lazy_lane::LazyLane;
 use crate::realm_numbers::RealmNumbers;
 use crate::rest::Rest;
-use roam_ids::LazyLane;
 use std::alloc::Allocator;
 
 /// The number of ends at home servers that a realm has at most: two at each of eight.

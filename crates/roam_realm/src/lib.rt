@@ -4,6 +4,11 @@
 //! is what a realm hands out and keeps: Identifiers toward its links, tickets, random words, the ledger of sessions, and how
 //! its servers' links rest. What is done with these, and with entries, is said by the crates above.
 //!
+//! A [`Lane`] holds the 256 Identifiers toward one endpoint for one realm (RFC 2865, section 3: an Identifier is one
+//! octet, and a reply is matched to its request by it). It takes no memory but when it is first needed.
+//!
+//! Nothing here touches a socket or a clock.
+//!
 //! # Proved
 //!
 //! - a realm begins with nothing in use, no session open, and all servers awake | `RealmNumbers::new`
@@ -18,10 +23,17 @@
 //! - each request is shaped as the lists of its peer and realm say | `RealmSettings::shaping_of`, `removal_for`
 //! - what a file of ledgers has of a realm's sessions is what is open, and is taken up as it was saved |
 //!   `RealmNumbers::save`, `restore`, `save_realm`
+//! - the first free Identifier at or after the cursor, and none exactly when all 256 are used | `Lane::take`
+//! - a slot in hand can't be dropped | its type
+//! - a lane whose memory isn't there is a fresh one, and `make` alone can be refused | `LazyLane`
 #![tactic(auto)]
 
 mod gauges;
 mod hashing;
+mod id_state;
+mod lane;
+pub mod laws;
+mod lazy_lane;
 mod link_choice;
 mod link_rests;
 mod links;
@@ -33,10 +45,14 @@ mod saving;
 mod server_order;
 mod service;
 mod shapings;
+mod slot;
 mod start;
+mod words;
 
 pub use gauges::{Gauges, SERVER_LINKS};
 pub use hashing::{HASH_STREAM, hash_key};
+pub use lane::Lane;
+pub use lazy_lane::LazyLane;
 pub use link_rests::Wanted;
 pub use realm_numbers::{RealmNumbers, new_lanes, new_rests, tag_of};
 pub use realm_settings::RealmSettings;
@@ -44,4 +60,5 @@ pub use rest::Rest;
 pub use saving::save_realm;
 pub use server_order::{CALLING_STATION_ID, ServersFrom};
 pub use service::Service;
+pub use slot::IdSlot;
 pub use start::Start;

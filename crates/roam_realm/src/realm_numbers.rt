@@ -2,8 +2,8 @@
 
 ghost use Rattle.std.specs.Prelude.{◌≡◌, ℕ, ◌<◌, ◌+◌, ◌*◌, ◌%◌, List, [], true, Some, None, length, replicate};
 ghost use Rattle.std.specs.Prelude.{slice_index_or, slice_set, IfSome, IfNone, IfOk, IsOk, OnOk, is_some};
-ghost use Rattle.roam_ids.specs.LaneState.{place_at, ticket_at};
-ghost use Rattle.roam_ids.specs.declared.id_state.IdState.TheVariants.{Free};
+ghost use Rattle.roam_realm.specs.LaneState.{place_at, ticket_at};
+ghost use Rattle.roam_realm.specs.declared.id_state.IdState.TheVariants.{Free};
 ghost use Rattle.roam_pending.specs.PlainEntry.{PlainEntry, waits_at};
 ghost use Rattle.roam_pending.specs.EntryList.{IsEntryList, find_ticket, put, without};
 ghost use Rattle.roam_sessions.specs.Sessions.{Session, applied};
@@ -14,12 +14,12 @@ ghost use Rattle.roam_realm.specs.RealmState.{next_toward};
 ghost use Rattle.roam_realm.specs.Rests.{all_awake};
 ghost use Rattle.roam_realm.specs.Sound.{AreOwnLanes, LanesTell, lane_of, cursors_of, has_free, marks_of, no_lane, WaitsJustAt};
 
+use crate::lazy_lane::LazyLane;
 use crate::realm_settings::RealmSettings;
 use crate::rest::Rest;
 use crate::start::Start;
 use roam_conf::Link;
 use roam_crypto::KeptWords;
-use roam_ids::LazyLane;
 use roam_sessions::{PreparedChange, Sessions};
 use roam_wire::{NoMemory, View};
 use std::alloc::Allocator;

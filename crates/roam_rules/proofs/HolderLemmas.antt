@@ -1,7 +1,7 @@
 -- A reply's entry by the lane of its link: the ticket that is parked there is that of the entry that waits.
 use Rattle.std.proofs.Common.{◌≡◌, ℕ, ◌<◌, true, false, List, Option, Some, None, refl, ap, sym, ◌∙◌}
 use Rattle.roam_conf.specs.declared.place.Link.{Link}
-use Rattle.roam_ids.specs.LaneState.{ticket_at}
+use Rattle.roam_realm.specs.LaneState.{ticket_at}
 use Rattle.roam_pending.specs.PlainEntry.{PlainEntry, waits_at}
 use Rattle.roam_pending.specs.EntryList.{IsEntryList, find_link, find_ticket}
 use Rattle.roam_pending.proofs.TestLemmas.{same}

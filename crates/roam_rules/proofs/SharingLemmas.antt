@@ -7,7 +7,7 @@ use Rattle.std.proofs.lemmas.Bool.{cases_Bool, true≢false, false≢true}
 use Rattle.std.proofs.lemmas.List.Sums.{sum_by-cons}
 use Rattle.roam_conf.specs.declared.place.Link.{Link}
 use Rattle.roam_conf.specs.declared.place.Link.TheVariants as link
-use Rattle.roam_ids.specs.LaneState.{ticket_at}
+use Rattle.roam_realm.specs.LaneState.{ticket_at}
 use Rattle.roam_pending.specs.PlainEntry.{PlainEntry, PlainRequest, PlainStanding, waiting, done, has_ticket, stands_at, waits_at}
 use Rattle.roam_pending.specs.EntryList.{IsEntryList, IsInOrder, besides, find_link, find_ticket}
 use Rattle.roam_pending.proofs.TestLemmas.{differs, same}

@@ -10,14 +10,14 @@ ghost use Rattle.roam_crypto.specs.Authenticators.{IsSignedReply, IsSignedReques
 ghost use Rattle.roam_crypto.specs.MessageAuthenticator.{IsWellSealed};
 ghost use Rattle.roam_crypto.specs.Hiding.{IsHiddenAnew};
 ghost use Rattle.roam_crypto.specs.HidingKeys.{password_key};
-ghost use Rattle.roam_ids.specs.LaneState.{is_used};
-ghost use Rattle.roam_ids.specs.NextIdentifier.{next_identifier};
+ghost use Rattle.roam_realm.specs.LaneState.{is_used};
+ghost use Rattle.roam_realm.specs.NextIdentifier.{next_identifier};
 
 use roam_conf::{Address, Config, Peer};
 use roam_crypto::{
     HidingKey, Secret, message_ok, password_fits, rehide_password, request_ok, response_ok,
 };
-use roam_ids::Lane;
+use roam_realm::Lane;
 use roam_wire::View;
 use roam_wire::attribute_type::USER_NAME;
 

@@ -1,7 +1,7 @@
 //! Lanes of Identifiers, by example. Which Identifier is next is worked out by hand from the rule:
 //! the first at or after the cursor, cyclic in 0..255, that isn't in use.
 
-use roam_ids::Lane;
+use roam_realm::Lane;
 
 /// Takes the next free Identifier and parks it with this ticket.
 fn admit(lane: &mut Lane, ticket: u64) -> Option<u8> {

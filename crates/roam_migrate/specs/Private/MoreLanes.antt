@@ -1,7 +1,7 @@
 -- Further lanes behind those that are there: words of private functions alone (ours).
 use Rattle.std.specs.Prelude.{◌≡◌, ℕ, ◌-◌, ◌≤◌, List, ◌++◌, length, map, replicate, slice_index_or, take}
-use Rattle.roam_ids.specs.LaneState.{LaneState, place_at}
-use Rattle.roam_ids.specs.declared.id_state.IdState.TheVariants.{Free}
+use Rattle.roam_realm.specs.LaneState.{LaneState, place_at}
+use Rattle.roam_realm.specs.declared.id_state.IdState.TheVariants.{Free}
 use Rattle.roam_realm.specs.RealmConfig.{RealmConfig}
 use Rattle.roam_realm.specs.Sound.{cursors_of, marks_of, no_lane, own_tags}
 

@@ -1,6 +1,6 @@
 -- The number of Identifiers of a lane that are in use (ours).
 use Rattle.std.specs.Prelude.{ℕ, zero, suc, ◌+◌, is_some, if◌then◌else◌}
-use Rattle.roam_ids.specs.LaneState.{LaneState, ticket_at}
+use Rattle.roam_realm.specs.LaneState.{LaneState, ticket_at}
 
 -- of the Identifiers below n: those under which a request waits
 unfoldable pub used_below : LaneState → ℕ → ℕ

@@ -8,7 +8,7 @@ use Rattle.roam_realm.specs.RealmConfig.{RealmConfig, IsLink, peer_ways}
 use Rattle.roam_realm.specs.ServerOrder.{links_from}
 use Rattle.std.specs.List.{find}
 use Rattle.std.specs.Option.{option_and_then, option_or}
-use Rattle.roam_ids.specs.LaneState.{LaneState}
+use Rattle.roam_realm.specs.LaneState.{LaneState}
 use Rattle.roam_realm.specs.Conversing.{asked_state, bound_link, new_target, rests_chosen}
 use Rattle.roam_exchange.specs.Happenings.{PlainHappening, by_turn, forwarded, replaced_by, to_target}
 use Rattle.roam_realm.specs.RealmState.{RealmState, Target, next_toward, with_rests}

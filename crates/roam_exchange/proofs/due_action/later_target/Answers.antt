@@ -2,7 +2,7 @@ use Rattle.std.proofs.Common.{◌≡◌, ◌∙◌, ap, sym, List, Option, ℕ, 
 use Rattle.roam_wire.specs.Reading.{packet_of}
 use Rattle.roam_conf.specs.declared.place.Link.{Link}
 use Rattle.roam_conf.specs.declared.place.Link.TheVariants as link
-use Rattle.roam_ids.specs.LaneState.{LaneState}
+use Rattle.roam_realm.specs.LaneState.{LaneState}
 use Rattle.roam_pending.specs.PlainEntry.{PlainRequest}
 use Rattle.roam_pending.specs.Shown.{shown_request}
 use Rattle.roam_realm.specs.RealmConfig.{RealmConfig}

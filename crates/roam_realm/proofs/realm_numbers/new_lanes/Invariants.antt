@@ -1,6 +1,6 @@
 use Rattle.std.proofs.Common.{◌≡◌, ℕ, ◌*◌, ◌<◌, ◌≤◌, true, length, map, replicate, get_or, vec_len, vec_capacity}
-use Rattle.roam_ids.specs.declared.id_state.IdState.TheVariants.{Free}
-use Rattle.roam_ids.specs.LaneState.{place_at}
+use Rattle.roam_realm.specs.declared.id_state.IdState.TheVariants.{Free}
+use Rattle.roam_realm.specs.LaneState.{place_at}
 use Rattle.roam_realm.specs.Sound.{cursors_of, no_lane, own_tags, Mark, mark_of, marks_of}
 use Rattle.roam_realm.proofs.realm_numbers.new_lanes.Given as goal
 

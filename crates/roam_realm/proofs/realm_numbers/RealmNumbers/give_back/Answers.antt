@@ -1,8 +1,8 @@
 use Rattle.std.proofs.Common.{◌≡◌, ◌<◌, ◌∙◌, ℕ, true, false, List, Some, None, arith, ap, sym, get_or, length}
 use Rattle.std.proofs.lemmas.Bool.{false≢true}
 use Rattle.roam_conf.specs.declared.place.Link.{Link}
-use Rattle.roam_ids.specs.IdSlot.{slot_id}
-use Rattle.roam_ids.specs.LaneState.{LaneState, ticket_at}
+use Rattle.roam_realm.specs.IdSlot.{slot_id}
+use Rattle.roam_realm.specs.LaneState.{LaneState, ticket_at}
 use Rattle.roam_pending.specs.EntryList.{find_ticket}
 use Rattle.roam_pending.specs.PlainEntry.{PlainEntry, waits_at}
 use Rattle.roam_realm.specs.RealmConfig.{RealmConfig, IsLink, link_place}

@@ -1,5 +1,5 @@
 use Rattle.std.proofs.Common.{◌<◌, ◌∙◌, Some, arith, ap, length}
-use Rattle.roam_ids.specs.declared.id_state.IdState.TheVariants.{Parked}
+use Rattle.roam_realm.specs.declared.id_state.IdState.TheVariants.{Parked}
 use Rattle.roam_realm.specs.Sound.{marks_of}
 use Rattle.roam_realm.proofs.LinkLaneLemmas.{cursors-taken, lane-back, next-read, marks-taken}
 use Rattle.roam_realm.proofs.TakenLaneLemmas.{tells-taken}

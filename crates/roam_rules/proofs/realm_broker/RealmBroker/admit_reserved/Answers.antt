@@ -1,6 +1,6 @@
 use Rattle.std.proofs.Common.{◌≡◌, true, false, List, [], ◌∷◌, ap, ◌∙◌, subst, sym}
 use Rattle.roam_admission.specs.Shown.{shown_out}
-use Rattle.roam_ids.specs.LaneState.{LaneState}
+use Rattle.roam_realm.specs.LaneState.{LaneState}
 use Rattle.roam_realm.specs.Conversing.{rests_chosen}
 use Rattle.roam_realm.specs.RealmConfig.{RealmConfig, IsLink}
 use Rattle.roam_realm.specs.RealmState.{RealmState, with_rests}

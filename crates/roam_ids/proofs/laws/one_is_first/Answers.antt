@@ -1,5 +1,0 @@
-use Rattle.roam_ids.proofs.NextIdentifierLemmas.{same_first}
-use Rattle.roam_ids.proofs.laws.one_is_first.Goals as goal
-
-pub returns : goal.returns
-returns c = same_first
