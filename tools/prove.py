@@ -22,7 +22,7 @@ import minutes
 
 ROOT = pathlib.Path(__file__).resolve().parent.parent
 # Crates whose check is worth several jobs, and how many.
-JOBS = {"roam_realm": 2, "roam_exchange": 2, "roam_rules": 3, "roam_migrate": 2, "roam_core": 2, "roam_pending": 2, "roam_shard": 2, "roam_hub": 3, "roam_workers": 3,
+JOBS = {"roam_realm": 2, "roam_rules": 3, "roam_migrate": 2, "roam_core": 2, "roam_pending": 2, "roam_shard": 2, "roam_hub": 3, "roam_workers": 3,
         "roam_admin_thread": 3, "roam_epoch": 3, "roam_server": 3, "roam_cli": 2,
         "roam_cli": 2, "roam_program": 3, "test_hub": 2}
 # Processor minutes from nothing, as they were read last: what stands longest above a crate goes first.

@@ -26,9 +26,9 @@ TIES = [
 
 # Functions that stand under one comment in their file, and each one's own on a page.
 OWN_WORDS = {
-    ("roam_exchange", "packets_of"): "the packets of a turn",
-    ("roam_exchange", "refusal_of"): "why a turn sends nothing",
-    ("roam_exchange", "state_after"): "the state after a turn, from the one before it",
+    ("roam_realm", "packets_of"): "the packets of a turn",
+    ("roam_realm", "refusal_of"): "why a turn sends nothing",
+    ("roam_realm", "state_after"): "the state after a turn, from the one before it",
     ("roam_core", "packets_in_turn"): "the packets of a broker's turn",
     ("roam_core", "refusal_given"): "why a broker's turn sends nothing",
     ("roam_core", "states_after"): "the states after a broker's turn, from those before it",

@@ -20,7 +20,7 @@ PARTS = {"ConfigView": ("shards", "seed", "peers", "realms"), "PlainJob": ("real
 MEMORY_TYPES = TYPES - {"RealmState"}
 MEMORY_PARTS = PARTS | {"RealmState": ("entries",)}
 # The crates whose functions each later chapter opens.
-OPENED = ({"roam_rules", "roam_exchange", "roam_realm", "roam_migrate", "roam_pending", "roam_sessions"},
+OPENED = ({"roam_rules", "roam_realm", "roam_migrate", "roam_pending", "roam_sessions"},
           {"roam_admission", "roam_conf"}, {"roam_wire", "roam_crypto", "roam_forward", "roam_reply"})
 
 INTRODUCTION = """<!-- Made by tools/pages.py from the sources: change those. -->

@@ -20,11 +20,11 @@ use Rattle.roam_pending.specs.PlainEntry.{PlainEntry, PlainRequest, PlainStandin
 use Rattle.roam_realm.specs.Conversing.{bound_target, new_target, rests_for}
 use Rattle.roam_realm.specs.RealmConfig.{RealmConfig, link_secret, seal_required}
 use Rattle.roam_realm.specs.RealmState.{RealmState, Target, with_rests}
-use Rattle.roam_exchange.specs.Happenings.{PlainHappening, PlainWaited, by_turn, code_in, first_sent, keeps_octets, kept_octets, of_duplicate, refused, reply_happening, request_happening, returned_for, returned_to, sent_for, to_target, waited_at}
-use Rattle.roam_exchange.specs.OnReply.{on_reply, once_heard_from, once_returned, passing_to, reply_turn, return_reply, returned_octets, returning, shows_life, to_entry, to_standing}
-use Rattle.roam_exchange.specs.OnRequest.{admit, at_target, held_reply, make_way, nak_octets, nak_or_new, new_request, of_key, on_request, packet_to_requester, reverse_cause, targets}
-use Rattle.roam_exchange.specs.Shares.{share_taken}
-use Rattle.roam_exchange.specs.Turn.{Turn, hears, in_time, latest_moment, packets_of, refuses, sends}
+use Rattle.roam_realm.specs.Happenings.{PlainHappening, PlainWaited, by_turn, code_in, first_sent, keeps_octets, kept_octets, of_duplicate, refused, reply_happening, request_happening, returned_for, returned_to, sent_for, to_target, waited_at}
+use Rattle.roam_realm.specs.OnReply.{on_reply, once_heard_from, once_returned, passing_to, reply_turn, return_reply, returned_octets, returning, shows_life, to_entry, to_standing}
+use Rattle.roam_realm.specs.OnRequest.{admit, at_target, held_reply, make_way, nak_octets, nak_or_new, new_request, of_key, on_request, packet_to_requester, reverse_cause, targets}
+use Rattle.roam_realm.specs.Shares.{share_taken}
+use Rattle.roam_realm.specs.Turn.{Turn, hears, in_time, latest_moment, packets_of, refuses, sends}
 use Rattle.roam_core.specs.Agreement.{ReplyAgrees, RequestAgrees}
 use Rattle.roam_core.proofs.SentLemmas.{either}
 

@@ -6,7 +6,7 @@ use Rattle.roam_conf.specs.Config.{ConfigView}
 use Rattle.roam_admission.specs.Admission.{Arrival, PlainOut, Admission, refused, answered_here, admitted, admission}
 use Rattle.roam_realm.specs.RealmConfig.{realm_config}
 use Rattle.roam_realm.specs.RealmState.{RealmState}
-use Rattle.roam_exchange.specs.OneRealm.{one_realm_run}
+use Rattle.roam_realm.specs.OneRealm.{one_realm_run}
 use Rattle.roam_core.specs.Alone.{OneRealmIsAlone}
 use Rattle.roam_core.specs.Events.{PlainEvent, arrives, ticks, given_by, given_to_realm, reject_of, rejects_by}
 use Rattle.roam_core.specs.Isolation.{HasRealm, IsRealmBelow, is_none, is_realm, packets_for, packets_for_none}

@@ -16,9 +16,9 @@ use Rattle.roam_realm.specs.RealmConfig.{RealmConfig}
 use Rattle.roam_realm.specs.ServerOrder.{later_targets}
 use Rattle.roam_realm.specs.RealmState.{RealmState, Target, chosen_target}
 use Rattle.roam_realm.specs.Rests.{after_silence, after_choice, signs_of}
-use Rattle.roam_exchange.specs.OnRequest.{packet_to_link, packet_to_requester, forwarded_entry, forwarded_octets, is_reverse, nak_octets}
+use Rattle.roam_realm.specs.OnRequest.{packet_to_link, packet_to_requester, forwarded_entry, forwarded_octets, is_reverse, nak_octets}
 use Rattle.roam_sessions.specs.declared.error_cause.TheConstants.{OTHER_PROXY_PROCESSING_ERROR}
-use Rattle.roam_exchange.specs.OnTick.{Progress, fail_over, given_up, given_up_at, once_refused, due_standing, due_entry, due_one, due_each}
+use Rattle.roam_realm.specs.OnTick.{Progress, fail_over, given_up, given_up_at, once_refused, due_standing, due_entry, due_one, due_each}
 use Rattle.roam_core.specs.Amplification.{Ends, counted, counted_back, counted_links, is_counted, may_follow, sum_over}
 use Rattle.roam_core.proofs.SentLemmas.{either}
 use Rattle.roam_core.proofs.SumLemmas.{chosen-holds, found-in, resent, sum-put, sum-replaced, sum-without, times}

@@ -7,9 +7,9 @@ use Rattle.roam_conf.specs.Config.{ConfigView}
 use Rattle.roam_rules.specs.BookView.{BookView, settings_of}
 use Rattle.roam_realm.specs.RealmConfig.{RealmConfig, realm_config}
 use Rattle.roam_realm.specs.RealmState.{RealmState, opening}
-use Rattle.roam_exchange.specs.Turn.{Turn, refuses, sends, state_after, Gives, hears}
-use Rattle.roam_exchange.specs.OnTick.{on_tick}
-use Rattle.roam_exchange.specs.declared.answer.Answer.{Answer}
+use Rattle.roam_realm.specs.Turn.{Turn, refuses, sends, state_after, Gives, hears}
+use Rattle.roam_realm.specs.OnTick.{on_tick}
+use Rattle.roam_realm.specs.declared.answer.Answer.{Answer}
 use Rattle.roam_realm.specs.declared.start.Start.{Start}
 use Rattle.roam_core.specs.Events.{is_in_shard}
 use Rattle.roam_core.specs.ManyRealms.{no_state, state_at, tick_of, turn_of_one}

@@ -19,12 +19,12 @@ use Rattle.roam_realm.specs.RealmConfig.{RealmConfig, link_endpoint, link_secret
 use Rattle.roam_realm.specs.ServerOrder.{later_targets}
 use Rattle.roam_realm.specs.RealmState.{RealmState, Target, chosen_target, opening, with_rests}
 use Rattle.roam_realm.specs.Rests.{after_silence}
-use Rattle.roam_exchange.specs.Turn.{Turn, packets_of, state_after, in_time}
-use Rattle.roam_exchange.specs.Shares.{share_taken}
-use Rattle.roam_exchange.specs.OnRequest.{make_way, at_target, is_reverse, nak_or_new, of_key, held_reply, reverse_cause, targets}
-use Rattle.roam_exchange.specs.OnReply.{reply_turn, passing_to, returning, to_entry, to_standing, shows_life}
-use Rattle.roam_exchange.specs.OnTick.{Progress, fail_over, given_up_at, due_standing, due_entry, due_one, due_each}
-use Rattle.roam_exchange.specs.OneRealm.{RealmEvent, request_came, reply_came, tick_came, on_event, one_realm_run}
+use Rattle.roam_realm.specs.Turn.{Turn, packets_of, state_after, in_time}
+use Rattle.roam_realm.specs.Shares.{share_taken}
+use Rattle.roam_realm.specs.OnRequest.{make_way, at_target, is_reverse, nak_or_new, of_key, held_reply, reverse_cause, targets}
+use Rattle.roam_realm.specs.OnReply.{reply_turn, passing_to, returning, to_entry, to_standing, shows_life}
+use Rattle.roam_realm.specs.OnTick.{Progress, fail_over, given_up_at, due_standing, due_entry, due_one, due_each}
+use Rattle.roam_realm.specs.OneRealm.{RealmEvent, request_came, reply_came, tick_came, on_event, one_realm_run}
 use Rattle.roam_realm.specs.Conversing.{bound_target, new_target, rests_for}
 use Rattle.roam_core.specs.Amplification.{Ends, NoAmplification, NoAmplificationFromStart, NoMoreAnswersThanRequests, OnePacketEach, caused_by, counted, counted_links, may_be_caused, may_still_follow, requests_from}
 use Rattle.roam_core.proofs.RequestCauseLemmas.{reply-answers, request-pays}

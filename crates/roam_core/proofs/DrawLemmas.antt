@@ -21,12 +21,12 @@ use Rattle.roam_pending.proofs.TestLemmas.{compared}
 use Rattle.roam_pending.specs.EntryList.{find_client, find_link, find_ticket, first_done, without_client}
 use Rattle.roam_realm.specs.RealmConfig.{RealmConfig, link_secret, seal_required}
 use Rattle.roam_realm.specs.RealmState.{RealmState, Target, opening, with_rests}
-use Rattle.roam_exchange.specs.Turn.{Turn, state_after}
-use Rattle.roam_exchange.specs.Shares.{share_taken}
-use Rattle.roam_exchange.specs.OnRequest.{draws, make_way, at_target, is_reverse, nak_or_new, new_request, of_key, position_after, reverse_cause}
-use Rattle.roam_exchange.specs.OnReply.{reply_turn, passing_to, returning, to_entry, to_standing, shows_life}
-use Rattle.roam_exchange.specs.OnTick.{Progress, fail_over, once_refused, due_standing, due_entry, due_one, due_each}
-use Rattle.roam_exchange.specs.OneRealm.{RealmEvent, request_came, reply_came, tick_came, on_event, one_realm_run}
+use Rattle.roam_realm.specs.Turn.{Turn, state_after}
+use Rattle.roam_realm.specs.Shares.{share_taken}
+use Rattle.roam_realm.specs.OnRequest.{draws, make_way, at_target, is_reverse, nak_or_new, new_request, of_key, position_after, reverse_cause}
+use Rattle.roam_realm.specs.OnReply.{reply_turn, passing_to, returning, to_entry, to_standing, shows_life}
+use Rattle.roam_realm.specs.OnTick.{Progress, fail_over, once_refused, due_standing, due_entry, due_one, due_each}
+use Rattle.roam_realm.specs.OneRealm.{RealmEvent, request_came, reply_came, tick_came, on_event, one_realm_run}
 use Rattle.roam_realm.specs.declared.start.Start.{Start}
 use Rattle.roam_core.specs.Draws.{DrawsAt, drawn, drawn_between, drawn_by, drawn_by_dues}
 use Rattle.roam_core.specs.Openings.{state_then}

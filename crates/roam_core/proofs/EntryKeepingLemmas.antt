@@ -21,13 +21,13 @@ use Rattle.roam_realm.specs.RealmConfig.{RealmConfig, link_secret, seal_required
 use Rattle.roam_realm.specs.ServerOrder.{later_targets}
 use Rattle.roam_realm.specs.RealmState.{RealmState, Target, chosen_target, with_rests}
 use Rattle.roam_realm.specs.Rests.{after_silence, after_choice, signs_of}
-use Rattle.roam_exchange.specs.Turn.{Turn, state_after}
-use Rattle.roam_exchange.specs.Shares.{share_taken}
-use Rattle.roam_exchange.specs.OnRequest.{forwarded_entry, make_way, at_target, is_reverse, nak_octets, nak_or_new, of_key, reverse_cause, targets}
-use Rattle.roam_exchange.specs.OnReply.{reply_turn, passing_to, returned_octets, returning, to_entry, to_standing, shows_life}
+use Rattle.roam_realm.specs.Turn.{Turn, state_after}
+use Rattle.roam_realm.specs.Shares.{share_taken}
+use Rattle.roam_realm.specs.OnRequest.{forwarded_entry, make_way, at_target, is_reverse, nak_octets, nak_or_new, of_key, reverse_cause, targets}
+use Rattle.roam_realm.specs.OnReply.{reply_turn, passing_to, returned_octets, returning, to_entry, to_standing, shows_life}
 use Rattle.roam_sessions.specs.declared.error_cause.TheConstants.{OTHER_PROXY_PROCESSING_ERROR}
-use Rattle.roam_exchange.specs.OnTick.{Progress, fail_over, given_up_at, once_refused, due_standing, due_entry, due_one, due_each}
-use Rattle.roam_exchange.specs.OneRealm.{request_came, reply_came, tick_came, on_event}
+use Rattle.roam_realm.specs.OnTick.{Progress, fail_over, given_up_at, once_refused, due_standing, due_entry, due_one, due_each}
+use Rattle.roam_realm.specs.OneRealm.{request_came, reply_came, tick_came, on_event}
 use Rattle.roam_realm.specs.Conversing.{new_target}
 use Rattle.roam_core.specs.Amplification.{Ends, counted_links}
 use Rattle.roam_core.proofs.SentLemmas.{either}

@@ -19,13 +19,13 @@ use Rattle.roam_realm.specs.RealmConfig.{RealmConfig, realm_config}
 use Rattle.roam_realm.specs.ServerOrder.{later_targets}
 use Rattle.roam_realm.specs.RealmState.{RealmState, Target, chosen_target}
 use Rattle.roam_realm.specs.Rests.{after_silence}
-use Rattle.roam_exchange.specs.declared.happening.Became.{Became}
-use Rattle.roam_exchange.specs.declared.happening.Became.TheVariants as became
-use Rattle.roam_exchange.specs.Happenings.{PlainDue, PlainHappening, PlainWaited, as_due, at_last, code_in, due_became, due_happenings, due_octets, due_of, due_with, event_happening, refused, tick_happening, ticked}
-use Rattle.roam_exchange.specs.OneRealm.{RealmEvent, event_of, on_event, request_came, reply_came, tick_came}
-use Rattle.roam_exchange.specs.OnRequest.{forwarded_octets, is_reverse, nak_octets, packet_to_link, packet_to_requester}
-use Rattle.roam_exchange.specs.OnTick.{as_turn, due_each, due_entry, due_one, due_standing, fail_over, given_up, given_up_at, on_tick}
-use Rattle.roam_exchange.specs.Turn.{Turn, hears, in_time, latest_moment, packets_of, refuses, sends}
+use Rattle.roam_realm.specs.declared.happening.Became.{Became}
+use Rattle.roam_realm.specs.declared.happening.Became.TheVariants as became
+use Rattle.roam_realm.specs.Happenings.{PlainDue, PlainHappening, PlainWaited, as_due, at_last, code_in, due_became, due_happenings, due_octets, due_of, due_with, event_happening, refused, tick_happening, ticked}
+use Rattle.roam_realm.specs.OneRealm.{RealmEvent, event_of, on_event, request_came, reply_came, tick_came}
+use Rattle.roam_realm.specs.OnRequest.{forwarded_octets, is_reverse, nak_octets, packet_to_link, packet_to_requester}
+use Rattle.roam_realm.specs.OnTick.{as_turn, due_each, due_entry, due_one, due_standing, fail_over, given_up, given_up_at, on_tick}
+use Rattle.roam_realm.specs.Turn.{Turn, hears, in_time, latest_moment, packets_of, refuses, sends}
 use Rattle.roam_core.specs.Agreement.{ArrivalAgrees, BecameAgrees, DuesAgree, EventAgrees, EventsAgree, RealmAgrees, TickAgrees, happenings_from}
 use Rattle.roam_core.specs.Events.{PlainEvent, arrives, is_in_shard, ticks}
 use Rattle.roam_core.specs.HappeningsTo.{arrival_happening, dues_at, dues_from, dues_told, happening_to, shard_happening}

@@ -12,10 +12,10 @@ use Rattle.roam_admission.specs.Admission.{Arrival, Admission, refused, answered
 use Rattle.roam_admission.proofs.EventLemmas.{admitted_realm}
 use Rattle.roam_realm.specs.RealmConfig.{RealmConfig, realm_config}
 use Rattle.roam_realm.specs.RealmState.{RealmState}
-use Rattle.roam_exchange.specs.Turn.{Turn, refuses, hears, sends, packets_of, state_after, in_time}
-use Rattle.roam_exchange.specs.OnTick.{as_turn, due_each, on_tick}
+use Rattle.roam_realm.specs.Turn.{Turn, refuses, hears, sends, packets_of, state_after, in_time}
+use Rattle.roam_realm.specs.OnTick.{as_turn, due_each, on_tick}
 use Rattle.roam_pending.specs.DueOrder.{due_list}
-use Rattle.roam_exchange.specs.OneRealm.{RealmEvent, tick_came, event_of, on_event, one_realm_run}
+use Rattle.roam_realm.specs.OneRealm.{RealmEvent, tick_came, event_of, on_event, one_realm_run}
 use Rattle.roam_core.specs.Events.{PlainEvent, arrives, ticks, given_by, is_in_shard, given_to_realm, reject_of, rejects_by}
 use Rattle.roam_core.specs.Isolation.{packets_for, packets_for_none, HasRealm}
 use Rattle.roam_core.specs.ManyRealms.{BrokerTurn, refuses_it, packets_in_turn, states_after, no_state, state_at, turn_of_one, to_arrival, tick_from, tick_all, answer_to}

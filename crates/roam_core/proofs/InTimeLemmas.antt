@@ -16,10 +16,10 @@ use Rattle.roam_pending.proofs.DueListLemmas.{in-due}
 use Rattle.roam_realm.specs.RealmConfig.{RealmConfig}
 use Rattle.roam_realm.specs.ServerOrder.{later_targets}
 use Rattle.roam_realm.specs.RealmState.{RealmState, opening}
-use Rattle.roam_exchange.specs.Turn.{state_after}
-use Rattle.roam_exchange.specs.OnRequest.{targets}
-use Rattle.roam_exchange.specs.OnTick.{due_each}
-use Rattle.roam_exchange.specs.OneRealm.{RealmEvent, request_came, reply_came, tick_came, on_event, one_realm_run}
+use Rattle.roam_realm.specs.Turn.{state_after}
+use Rattle.roam_realm.specs.OnRequest.{targets}
+use Rattle.roam_realm.specs.OnTick.{due_each}
+use Rattle.roam_realm.specs.OneRealm.{RealmEvent, request_came, reply_came, tick_came, on_event, one_realm_run}
 use Rattle.roam_realm.specs.declared.start.Start.{Start}
 use Rattle.roam_rules.proofs.LeastLemmas.{none-due_after}
 use Rattle.roam_core.specs.Amplification.{counted_links, is_counted, one_each}

@@ -5,11 +5,11 @@ use Rattle.std.proofs.Math.Seq.{get_or-append_seam, set-append_seam}
 use Rattle.std.proofs.lemmas.List.{drop_all, get_or-set_same, length-map}
 use Rattle.roam_conf.specs.Config.{ConfigView}
 use Rattle.roam_rules.specs.BookView.{BookView}
-use Rattle.roam_exchange.specs.OnTick.{on_tick}
+use Rattle.roam_realm.specs.OnTick.{on_tick}
 use Rattle.roam_realm.specs.RealmConfig.{realm_config}
 use Rattle.roam_realm.specs.RealmState.{RealmState}
-use Rattle.roam_exchange.specs.Rooms.{only_done_due}
-use Rattle.roam_exchange.specs.Turn.{Turn, sends, packets_of, state_after}
+use Rattle.roam_realm.specs.Rooms.{only_done_due}
+use Rattle.roam_realm.specs.Turn.{Turn, sends, packets_of, state_after}
 use Rattle.roam_core.specs.BrokerView.{states_of}
 use Rattle.roam_core.specs.Events.{is_in_shard}
 use Rattle.roam_core.specs.ManyRealms.{AllRealms, no_state, state_at, tick_of, tick_from}

@@ -10,8 +10,8 @@ use Rattle.roam_admission.specs.Admission.{PlainOut}
 use Rattle.roam_pending.specs.ListLaws.{IsIn}
 use Rattle.roam_pending.specs.PlainEntry.{PlainRequest}
 use Rattle.roam_pending.proofs.TestLemmas.{compared}
-use Rattle.roam_exchange.specs.OnRequest.{draws}
-use Rattle.roam_exchange.specs.OneRealm.{RealmEvent, request_came, tick_came}
+use Rattle.roam_realm.specs.OnRequest.{draws}
+use Rattle.roam_realm.specs.OneRealm.{RealmEvent, request_came, tick_came}
 use Rattle.roam_core.specs.Draws.{drawn_by}
 use Rattle.roam_core.specs.Lives.{Happening, Stage, draws_at, draws_in, event, goes_on, begins_anew, stage_after, stage_then}
 use Rattle.roam_core.specs.Occasions.{Occasion}

@@ -9,9 +9,9 @@ use Rattle.roam_pending.specs.PlainEntry.{PlainRequest, PlainStanding, PlainEntr
 use Rattle.roam_pending.proofs.TestLemmas.{all-weaker}
 use Rattle.roam_realm.specs.RealmConfig.{RealmConfig}
 use Rattle.roam_realm.specs.RealmState.{RealmState, Target}
-use Rattle.roam_exchange.specs.Turn.{Turn, packets_of, state_after, in_time}
-use Rattle.roam_exchange.specs.OnRequest.{forwarded_octets, packet_to_link}
-use Rattle.roam_exchange.specs.OneRealm.{RealmEvent, request_came, reply_came, on_event}
+use Rattle.roam_realm.specs.Turn.{Turn, packets_of, state_after, in_time}
+use Rattle.roam_realm.specs.OnRequest.{forwarded_octets, packet_to_link}
+use Rattle.roam_realm.specs.OneRealm.{RealmEvent, request_came, reply_came, on_event}
 use Rattle.roam_core.specs.Lives.{Happening, Stage, event, stage_then}
 use Rattle.roam_core.specs.LifeOrigins.{ComesFromIn, HasOriginIn, IsForwardedIn, IsLaterTickIn, IsNakIn, IsOwnTurnIn, IsRequestIn, IsReturnedIn, IsSentIn, IsTargetThen, IsToldIn, StandsFromIn, WaitsForIn, back_to}
 use Rattle.roam_core.specs.Told.{link_over, request_over}

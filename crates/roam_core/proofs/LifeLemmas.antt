@@ -3,8 +3,8 @@ use Rattle.std.proofs.Common.{◌≡◌, ℕ, List, [], ◌∷◌, ◌++◌, map
 use Rattle.roam_admission.specs.Admission.{PlainOut}
 use Rattle.roam_realm.specs.RealmConfig.{RealmConfig}
 use Rattle.roam_realm.specs.RealmState.{RealmState}
-use Rattle.roam_exchange.specs.Turn.{packets_of, state_after}
-use Rattle.roam_exchange.specs.OneRealm.{RealmEvent, on_event, one_realm_run}
+use Rattle.roam_realm.specs.Turn.{packets_of, state_after}
+use Rattle.roam_realm.specs.OneRealm.{RealmEvent, on_event, one_realm_run}
 use Rattle.roam_core.specs.Draws.{drawn, drawn_by}
 use Rattle.roam_core.specs.Lives.{Happening, Stage, draws_at, draws_in, event, goes_on, begins_anew, sent_at, sent_in, stage_after, stage_then}
 

@@ -6,8 +6,8 @@ use Rattle.roam_pending.proofs.TestLemmas.{all-append}
 use Rattle.roam_conf.specs.Config.{ConfigView}
 use Rattle.roam_conf.specs.declared.place.Link.{Link}
 use Rattle.roam_pending.specs.PlainEntry.{PlainEntry, PlainRequest, PlainStanding, waiting, done}
-use Rattle.roam_exchange.specs.Turn.{packets_of}
-use Rattle.roam_exchange.specs.OneRealm.{RealmEvent, request_came, reply_came, tick_came, on_event}
+use Rattle.roam_realm.specs.Turn.{packets_of}
+use Rattle.roam_realm.specs.OneRealm.{RealmEvent, request_came, reply_came, tick_came, on_event}
 use Rattle.roam_migrate.specs.Reload.{entry_then, standing_then, way_then}
 use Rattle.roam_core.specs.Lives.{Happening, Stage, event, goes_on, begins_anew, part_in, sent_at, sent_in, stage_after, stage_then}
 use Rattle.roam_core.specs.LifeOrigins.{ComesFromIn, HasOriginIn, StandsFromIn, WaitsForIn, back_to}

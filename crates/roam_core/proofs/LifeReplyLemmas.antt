@@ -16,11 +16,11 @@ use Rattle.roam_pending.proofs.TestLemmas.{all-find}
 use Rattle.roam_pending.proofs.OrderLemmas.{all-put}
 use Rattle.roam_pending.proofs.ChangeLemmas.{find-passes}
 use Rattle.roam_realm.specs.RealmConfig.{RealmConfig, link_secret, seal_required}
-use Rattle.roam_exchange.specs.Turn.{packets_of}
-use Rattle.roam_exchange.specs.OnRequest.{packet_to_requester}
+use Rattle.roam_realm.specs.Turn.{packets_of}
+use Rattle.roam_realm.specs.OnRequest.{packet_to_requester}
 use Rattle.roam_reply.specs.ReplyCheck.{reply_fault}
-use Rattle.roam_exchange.specs.OnReply.{reply_turn, on_reply, passing_to, return_reply, returned_octets, returning, to_entry, to_standing, shows_life}
-use Rattle.roam_exchange.specs.OneRealm.{reply_came}
+use Rattle.roam_realm.specs.OnReply.{reply_turn, on_reply, passing_to, return_reply, returned_octets, returning, to_entry, to_standing, shows_life}
+use Rattle.roam_realm.specs.OneRealm.{reply_came}
 use Rattle.roam_core.specs.Lives.{Happening, Stage, event, stage_then}
 use Rattle.roam_core.specs.LifeOrigins.{ComesFromIn, IsReturnedIn, IsSentIn, StandsFromIn, WaitsForIn, back_to}
 use Rattle.roam_core.proofs.LifeLemmas.{index-then}

@@ -14,10 +14,10 @@ use Rattle.roam_pending.proofs.ChangeLemmas.{find-passes}
 use Rattle.roam_pending.proofs.ClientLemmas.{key-equal}
 use Rattle.roam_realm.specs.RealmConfig.{RealmConfig}
 use Rattle.roam_realm.specs.RealmState.{RealmState, Target, with_rests}
-use Rattle.roam_exchange.specs.Turn.{Turn, refuses, state_after}
-use Rattle.roam_exchange.specs.Shares.{share_taken}
-use Rattle.roam_exchange.specs.OnRequest.{packet_to_requester, forwarded_entry, admit, make_way, at_target, new_request, held_reply, first_seen, nak_octets, nak_or_new, of_key, on_request, reverse_cause, targets}
-use Rattle.roam_exchange.specs.OneRealm.{request_came}
+use Rattle.roam_realm.specs.Turn.{Turn, refuses, state_after}
+use Rattle.roam_realm.specs.Shares.{share_taken}
+use Rattle.roam_realm.specs.OnRequest.{packet_to_requester, forwarded_entry, admit, make_way, at_target, new_request, held_reply, first_seen, nak_octets, nak_or_new, of_key, on_request, reverse_cause, targets}
+use Rattle.roam_realm.specs.OneRealm.{request_came}
 use Rattle.roam_realm.specs.Rests.{signs_of}
 use Rattle.roam_realm.specs.Conversing.{bound_target, new_target, rests_for}
 use Rattle.roam_core.specs.Draws.{drawn_between}

@@ -1,6 +1,6 @@
 -- A ticket is given to one event of a realm's life: nothing that happens takes the next ticket back.
 use Rattle.std.proofs.Common.{◌≡◌, ◌≤◌, ℕ, List, [], ◌∷◌, ◌++◌, sym, subst, ◌∙◌, arith, append_assoc}
-use Rattle.roam_exchange.specs.OneRealm.{RealmEvent, request_came}
+use Rattle.roam_realm.specs.OneRealm.{RealmEvent, request_came}
 use Rattle.roam_core.specs.Lives.{Happening, Stage, event, goes_on, begins_anew, stage_after, stage_then}
 use Rattle.roam_core.specs.LifeOrigins.{TakesTicketIn}
 use Rattle.roam_core.specs.LifeLaws.{OneRequestHasTicketIn, TicketIsGivenOnceIn}

@@ -16,10 +16,10 @@ use Rattle.roam_pending.specs.PlainEntry.{PlainRequest, PlainEntry}
 use Rattle.roam_pending.specs.EntryList.{find_client}
 use Rattle.roam_realm.specs.RealmConfig.{RealmConfig}
 use Rattle.roam_realm.specs.RealmState.{RealmState}
-use Rattle.roam_exchange.specs.Turn.{Turn, packets_of, state_after, in_time}
-use Rattle.roam_exchange.specs.OnRequest.{is_reverse, nak_or_new, of_key, reverse_cause}
-use Rattle.roam_exchange.specs.OnTick.{Progress}
-use Rattle.roam_exchange.specs.OneRealm.{RealmEvent, request_came, reply_came, tick_came, on_event, one_realm_run}
+use Rattle.roam_realm.specs.Turn.{Turn, packets_of, state_after, in_time}
+use Rattle.roam_realm.specs.OnRequest.{is_reverse, nak_or_new, of_key, reverse_cause}
+use Rattle.roam_realm.specs.OnTick.{Progress}
+use Rattle.roam_realm.specs.OneRealm.{RealmEvent, request_came, reply_came, tick_came, on_event, one_realm_run}
 use Rattle.std.specs.Option.{option_or}
 use Rattle.roam_core.specs.Isolation.{is_realm}
 

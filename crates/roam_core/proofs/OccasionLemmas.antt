@@ -9,8 +9,8 @@ use Rattle.roam_pending.specs.DueOrder.{due_list}
 use Rattle.roam_pending.specs.EntryList.{find_ticket}
 use Rattle.roam_realm.specs.RealmConfig.{RealmConfig}
 use Rattle.roam_realm.specs.RealmState.{RealmState}
-use Rattle.roam_exchange.specs.OnTick.{due_one}
-use Rattle.roam_exchange.specs.OneRealm.{RealmEvent, request_came, reply_came, tick_came}
+use Rattle.roam_realm.specs.OnTick.{due_one}
+use Rattle.roam_realm.specs.OneRealm.{RealmEvent, request_came, reply_came, tick_came}
 use Rattle.roam_core.specs.Draws.{drawn_between, drawn_by, drawn_by_dues}
 use Rattle.roam_core.specs.Occasions.{Occasion, occasions, of_due, of_dues}
 use Rattle.roam_core.proofs.RealmRunLemmas.{in-left, in-right}

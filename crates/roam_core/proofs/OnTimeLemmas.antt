@@ -12,9 +12,9 @@ use Rattle.roam_pending.proofs.OrderLemmas.{all-put}
 use Rattle.roam_realm.specs.RealmConfig.{RealmConfig}
 use Rattle.roam_realm.specs.ServerOrder.{later_targets}
 use Rattle.roam_realm.specs.RealmState.{RealmState}
-use Rattle.roam_exchange.specs.Turn.{state_after}
-use Rattle.roam_exchange.specs.OnRequest.{targets}
-use Rattle.roam_exchange.specs.OneRealm.{RealmEvent, request_came, reply_came, tick_came, on_event, one_realm_run}
+use Rattle.roam_realm.specs.Turn.{state_after}
+use Rattle.roam_realm.specs.OnRequest.{targets}
+use Rattle.roam_realm.specs.OneRealm.{RealmEvent, request_came, reply_came, tick_came, on_event, one_realm_run}
 use Rattle.roam_core.specs.Amplification.{one_each}
 use Rattle.roam_core.specs.InTime.{longest_wait, moment_of}
 use Rattle.roam_core.specs.OnTime.{AreOnTime, IsOnTime, LastsUntil, NoRequestWaitsLonger, NoneWaitsLongerFrom, RoundsAreOnTime, WasNotDue, packets_left, waits_until}

@@ -8,9 +8,9 @@ use Rattle.roam_pending.specs.PlainEntry.{PlainRequest, PlainStanding, PlainEntr
 use Rattle.roam_pending.proofs.TestLemmas.{all-weaker}
 use Rattle.roam_realm.specs.RealmConfig.{RealmConfig}
 use Rattle.roam_realm.specs.RealmState.{RealmState, Target}
-use Rattle.roam_exchange.specs.Turn.{Turn, packets_of, state_after, in_time}
-use Rattle.roam_exchange.specs.OnRequest.{packet_to_requester}
-use Rattle.roam_exchange.specs.OneRealm.{RealmEvent, request_came, reply_came, tick_came, on_event}
+use Rattle.roam_realm.specs.Turn.{Turn, packets_of, state_after, in_time}
+use Rattle.roam_realm.specs.OnRequest.{packet_to_requester}
+use Rattle.roam_realm.specs.OneRealm.{RealmEvent, request_came, reply_came, tick_came, on_event}
 use Rattle.roam_realm.specs.declared.start.Start.{Start}
 use Rattle.roam_core.specs.Openings.{state_then}
 use Rattle.roam_core.specs.Provenance.{IsRequestOf, IsSentBy, AtLaterTick, Forwards, IsForwarded, IsReturned, HasOrigin, StandsFrom, ComesFrom, IsNak}

@@ -18,11 +18,11 @@ use Rattle.roam_pending.proofs.OrderLemmas.{all-put}
 use Rattle.roam_pending.proofs.ChangeLemmas.{find-passes}
 use Rattle.roam_realm.specs.RealmConfig.{RealmConfig, link_secret, seal_required}
 use Rattle.roam_realm.specs.RealmState.{RealmState}
-use Rattle.roam_exchange.specs.Turn.{packets_of}
-use Rattle.roam_exchange.specs.OnRequest.{packet_to_requester}
+use Rattle.roam_realm.specs.Turn.{packets_of}
+use Rattle.roam_realm.specs.OnRequest.{packet_to_requester}
 use Rattle.roam_reply.specs.ReplyCheck.{reply_fault}
-use Rattle.roam_exchange.specs.OnReply.{reply_turn, on_reply, passing_to, return_reply, returned_octets, returning, to_entry, to_standing, shows_life}
-use Rattle.roam_exchange.specs.OneRealm.{RealmEvent, reply_came}
+use Rattle.roam_realm.specs.OnReply.{reply_turn, on_reply, passing_to, return_reply, returned_octets, returning, to_entry, to_standing, shows_life}
+use Rattle.roam_realm.specs.OneRealm.{RealmEvent, reply_came}
 use Rattle.roam_realm.specs.declared.start.Start.{Start}
 use Rattle.roam_core.specs.Provenance.{IsSentBy, IsReturned, WaitsFor, StandsFrom, ComesFrom}
 use Rattle.roam_core.proofs.OriginLemmas.{EachComes, AreSentBy, TurnKeeps, request-later, each-later, in_time-keeps}

@@ -16,11 +16,11 @@ use Rattle.roam_realm.specs.RealmConfig.{RealmConfig}
 use Rattle.roam_realm.specs.ServerOrder.{later_targets}
 use Rattle.roam_realm.specs.Rests.{after_silence, after_choice, signs_of}
 use Rattle.roam_realm.specs.RealmState.{RealmState, Target, chosen_target, with_rests}
-use Rattle.roam_exchange.specs.Turn.{packets_of}
+use Rattle.roam_realm.specs.Turn.{packets_of}
 use Rattle.roam_admission.specs.Admission.{PlainOut}
-use Rattle.roam_exchange.specs.OnRequest.{draws, forwarded_entry, is_reverse, nak_octets, once_forwarded, packet_to_requester, packet_to_link}
-use Rattle.roam_exchange.specs.OnTick.{Progress, fail_over, given_up, once_refused, due_standing, due_entry, due_one, due_each, as_turn, on_tick, given_up_at}
-use Rattle.roam_exchange.specs.OneRealm.{RealmEvent, tick_came}
+use Rattle.roam_realm.specs.OnRequest.{draws, forwarded_entry, is_reverse, nak_octets, once_forwarded, packet_to_requester, packet_to_link}
+use Rattle.roam_realm.specs.OnTick.{Progress, fail_over, given_up, once_refused, due_standing, due_entry, due_one, due_each, as_turn, on_tick, given_up_at}
+use Rattle.roam_realm.specs.OneRealm.{RealmEvent, tick_came}
 use Rattle.roam_realm.specs.declared.start.Start.{Start}
 use Rattle.roam_core.specs.Openings.{state_then}
 use Rattle.roam_core.specs.Draws.{DrawsAt, drawn_between, drawn_by, drawn_by_dues}

@@ -16,10 +16,10 @@ use Rattle.roam_pending.proofs.DueListLemmas.{due-in, due-taken, in-due, strict-
 use Rattle.roam_pending.proofs.OrderLemmas.{list-without}
 use Rattle.roam_realm.specs.RealmConfig.{RealmConfig, realm_config}
 use Rattle.roam_realm.specs.RealmState.{RealmState, with_entries}
-use Rattle.roam_exchange.specs.Rooms.{is_done_at}
-use Rattle.roam_exchange.specs.Turn.{Turn, in_time, packets_of, sends, state_after}
-use Rattle.roam_exchange.specs.OnTick.{Progress, as_turn, due_each, silent}
-use Rattle.roam_exchange.specs.OneRealm.{RealmEvent, request_came, reply_came, tick_came, one_realm_run}
+use Rattle.roam_realm.specs.Rooms.{is_done_at}
+use Rattle.roam_realm.specs.Turn.{Turn, in_time, packets_of, sends, state_after}
+use Rattle.roam_realm.specs.OnTick.{Progress, as_turn, due_each, silent}
+use Rattle.roam_realm.specs.OneRealm.{RealmEvent, request_came, reply_came, tick_came, one_realm_run}
 use Rattle.roam_rules.specs.LostTicks.{without_each}
 use Rattle.roam_rules.proofs.LettingGoLemmas.{all-without, both, goes-one}
 use Rattle.roam_rules.proofs.LostTickLemmas.{nothing-is_lost, only-done_go}

@@ -11,8 +11,8 @@ use Rattle.roam_admission.specs.OwnPart.{HaveSamePart, own}
 use Rattle.roam_admission.proofs.OwnLemmas.{own_part_decides}
 use Rattle.roam_realm.specs.RealmConfig.{RealmConfig, no_realm, realm_config}
 use Rattle.roam_realm.specs.RealmState.{RealmState, opening}
-use Rattle.roam_exchange.specs.OnTick.{Progress}
-use Rattle.roam_exchange.specs.OneRealm.{RealmEvent, event_of, one_realm_run}
+use Rattle.roam_realm.specs.OnTick.{Progress}
+use Rattle.roam_realm.specs.OneRealm.{RealmEvent, event_of, one_realm_run}
 use Rattle.roam_realm.specs.declared.start.Start.{Start}
 use Rattle.roam_core.specs.Events.{PlainEvent, arrives, ticks, given_by, given_to_realm, events_of_realm}
 use Rattle.roam_core.specs.Openings.{start_of}

@@ -25,10 +25,10 @@ use Rattle.roam_pending.specs.EntryList.{find_client}
 use Rattle.roam_realm.specs.RealmConfig.{RealmConfig, link_secret, seal_required}
 use Rattle.roam_realm.specs.RealmState.{RealmState, Target}
 use Rattle.roam_realm.specs.Shapings.{shaping}
-use Rattle.roam_exchange.specs.Turn.{Turn, latest_moment, refuses, sends, state_after}
-use Rattle.roam_exchange.specs.OnRequest.{forwarded_octets, forwarding, held_reply, is_reverse, nak_octets, nak_or_new, of_key, on_request, reverse_cause}
-use Rattle.roam_exchange.specs.OnReply.{passing_to, returned_octets, returning}
-use Rattle.roam_exchange.specs.OneRealm.{RealmEvent, request_came, on_event}
+use Rattle.roam_realm.specs.Turn.{Turn, latest_moment, refuses, sends, state_after}
+use Rattle.roam_realm.specs.OnRequest.{forwarded_octets, forwarding, held_reply, is_reverse, nak_octets, nak_or_new, of_key, on_request, reverse_cause}
+use Rattle.roam_realm.specs.OnReply.{passing_to, returned_octets, returning}
+use Rattle.roam_realm.specs.OneRealm.{RealmEvent, request_came, on_event}
 use Rattle.roam_realm.specs.declared.start.Start.{Start}
 use Rattle.roam_core.specs.LifeLaws.{AdmittedIsOfOwnSessionIn}
 use Rattle.roam_core.specs.Lives.{Stage, event, stage_then}

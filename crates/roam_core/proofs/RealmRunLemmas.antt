@@ -6,8 +6,8 @@ use Rattle.roam_admission.specs.Admission.{PlainOut}
 use Rattle.roam_pending.specs.ListLaws.{IsIn}
 use Rattle.roam_realm.specs.RealmConfig.{RealmConfig}
 use Rattle.roam_realm.specs.RealmState.{RealmState, opening}
-use Rattle.roam_exchange.specs.Turn.{packets_of, state_after}
-use Rattle.roam_exchange.specs.OneRealm.{RealmEvent, on_event, one_realm_run}
+use Rattle.roam_realm.specs.Turn.{packets_of, state_after}
+use Rattle.roam_realm.specs.OneRealm.{RealmEvent, on_event, one_realm_run}
 use Rattle.roam_realm.specs.declared.start.Start.{Start}
 use Rattle.roam_core.specs.Openings.{one_realm_packets, state_then}
 

@@ -15,10 +15,10 @@ use Rattle.roam_pending.specs.EntryList.{find_client, find_link, first_done, wit
 use Rattle.roam_pending.specs.Realms.{with_standing}
 use Rattle.roam_realm.specs.RealmConfig.{RealmConfig, link_secret, seal_required}
 use Rattle.roam_realm.specs.RealmState.{RealmState, Target, with_rests}
-use Rattle.roam_exchange.specs.Turn.{Turn, refuses, sends, packets_of, state_after, in_time, hears}
-use Rattle.roam_exchange.specs.Shares.{share_taken}
-use Rattle.roam_exchange.specs.OnRequest.{packet_to_requester, forwarded_entry, admit, make_way, at_target, nak_octets, nak_or_new, new_request, of_key, held_reply, reverse_cause, targets}
-use Rattle.roam_exchange.specs.OnReply.{reply_turn, passing_to, return_reply, returned_octets, returning, to_entry, to_standing, shows_life, once_heard_from}
+use Rattle.roam_realm.specs.Turn.{Turn, refuses, sends, packets_of, state_after, in_time, hears}
+use Rattle.roam_realm.specs.Shares.{share_taken}
+use Rattle.roam_realm.specs.OnRequest.{packet_to_requester, forwarded_entry, admit, make_way, at_target, nak_octets, nak_or_new, new_request, of_key, held_reply, reverse_cause, targets}
+use Rattle.roam_realm.specs.OnReply.{reply_turn, passing_to, return_reply, returned_octets, returning, to_entry, to_standing, shows_life, once_heard_from}
 use Rattle.roam_realm.specs.Rests.{signs_of}
 use Rattle.roam_realm.specs.Conversing.{new_target}
 use Rattle.roam_core.specs.Amplification.{Ends, counted, counted_back, counted_links, may_cause, may_follow}

@@ -15,11 +15,11 @@ use Rattle.roam_pending.proofs.DueListLemmas.{due-in}
 use Rattle.roam_pending.proofs.TestLemmas.{all-append, all-find}
 use Rattle.roam_realm.specs.RealmConfig.{RealmConfig}
 use Rattle.roam_realm.specs.RealmState.{RealmState}
-use Rattle.roam_exchange.specs.declared.happening.Became.{Became}
-use Rattle.roam_exchange.specs.Happenings.{PlainDue, as_due, by_turn, due_became, due_happenings, due_octets, due_of, due_with, ticked, waited_at}
-use Rattle.roam_exchange.specs.OneRealm.{RealmEvent, request_came, reply_came, tick_came, on_event}
-use Rattle.roam_exchange.specs.OnTick.{due_one, on_tick}
-use Rattle.roam_exchange.specs.Turn.{Turn, hears, refuses, sends, state_after}
+use Rattle.roam_realm.specs.declared.happening.Became.{Became}
+use Rattle.roam_realm.specs.Happenings.{PlainDue, as_due, by_turn, due_became, due_happenings, due_octets, due_of, due_with, ticked, waited_at}
+use Rattle.roam_realm.specs.OneRealm.{RealmEvent, request_came, reply_came, tick_came, on_event}
+use Rattle.roam_realm.specs.OnTick.{due_one, on_tick}
+use Rattle.roam_realm.specs.Turn.{Turn, hears, refuses, sends, state_after}
 use Rattle.roam_core.specs.HappeningsTo.{dues_told}
 use Rattle.roam_core.specs.InTime.{moment_of}
 use Rattle.roam_core.specs.Rounds.{IsOfAnother, IsOfRound, SentOnceInARound, WaitsSince, dues_at_event, dues_by}

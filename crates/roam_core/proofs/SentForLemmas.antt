@@ -12,9 +12,9 @@ use Rattle.roam_pending.specs.EntryList.{find_link}
 use Rattle.roam_pending.proofs.TestLemmas.{differs, same}
 use Rattle.roam_realm.specs.RealmConfig.{RealmConfig}
 use Rattle.roam_realm.specs.RealmState.{RealmState, opening}
-use Rattle.roam_exchange.specs.Turn.{packets_of, state_after}
-use Rattle.roam_exchange.specs.OnTick.{due_one}
-use Rattle.roam_exchange.specs.OneRealm.{RealmEvent, request_came, reply_came, tick_came, on_event, one_realm_run}
+use Rattle.roam_realm.specs.Turn.{packets_of, state_after}
+use Rattle.roam_realm.specs.OnTick.{due_one}
+use Rattle.roam_realm.specs.OneRealm.{RealmEvent, request_came, reply_came, tick_came, on_event, one_realm_run}
 use Rattle.roam_core.specs.Amplification.{Ends, counted, may_cause}
 use Rattle.roam_core.specs.Openings.{state_then}
 use Rattle.roam_core.specs.SentFor.{AtMostTriesToEach, all_sent_for, is_of, only_if, sent_by_dues, sent_for, takes}

@@ -17,12 +17,12 @@ use Rattle.roam_realm.specs.RealmConfig.{RealmConfig, link_secret, seal_required
 use Rattle.roam_realm.specs.ServerOrder.{later_targets}
 use Rattle.roam_realm.specs.Rests.{after_silence}
 use Rattle.roam_realm.specs.RealmState.{RealmState, Target, chosen_target, with_rests}
-use Rattle.roam_exchange.specs.Turn.{Turn, refuses, sends, packets_of, in_time, hears}
-use Rattle.roam_exchange.specs.Shares.{share_taken}
-use Rattle.roam_exchange.specs.OnRequest.{packet_to_requester, admit, make_way, at_target, new_request, held_reply, first_seen, is_reverse, nak_octets, nak_or_new, of_key, on_request, reverse_cause, targets}
-use Rattle.roam_exchange.specs.OnReply.{return_reply, reply_turn, to_standing, to_entry, reply_fault, on_reply, shows_life, once_heard_from}
-use Rattle.roam_exchange.specs.OnTick.{Progress, silent, fail_over, without_entry, due_standing, due_entry, due_one, due_each, as_turn, on_tick, given_up_at}
-use Rattle.roam_exchange.specs.OneRealm.{RealmEvent, request_came, reply_came, tick_came, on_event}
+use Rattle.roam_realm.specs.Turn.{Turn, refuses, sends, packets_of, in_time, hears}
+use Rattle.roam_realm.specs.Shares.{share_taken}
+use Rattle.roam_realm.specs.OnRequest.{packet_to_requester, admit, make_way, at_target, new_request, held_reply, first_seen, is_reverse, nak_octets, nak_or_new, of_key, on_request, reverse_cause, targets}
+use Rattle.roam_realm.specs.OnReply.{return_reply, reply_turn, to_standing, to_entry, reply_fault, on_reply, shows_life, once_heard_from}
+use Rattle.roam_realm.specs.OnTick.{Progress, silent, fail_over, without_entry, due_standing, due_entry, due_one, due_each, as_turn, on_tick, given_up_at}
+use Rattle.roam_realm.specs.OneRealm.{RealmEvent, request_came, reply_came, tick_came, on_event}
 use Rattle.roam_realm.specs.Conversing.{bound_target, new_target, rests_for}
 use Rattle.roam_core.proofs.PacketLemmas.{IsFor, AllFor, AllFor-append}
 

@@ -8,9 +8,9 @@ use Rattle.roam_conf.specs.Config.{ConfigView}
 use Rattle.roam_admission.specs.Admission.{PlainOut}
 use Rattle.roam_rules.specs.BookView.{BookView}
 use Rattle.roam_realm.specs.RealmState.{RealmState}
-use Rattle.roam_exchange.specs.Turn.{Turn, packets_of, state_after, shown_outs}
-use Rattle.roam_exchange.specs.declared.answer.Answer.{Answer}
-use Rattle.roam_exchange.specs.declared.tick_memory.Room.{Room}
+use Rattle.roam_realm.specs.Turn.{Turn, packets_of, state_after, shown_outs}
+use Rattle.roam_realm.specs.declared.answer.Answer.{Answer}
+use Rattle.roam_realm.specs.declared.tick_memory.Room.{Room}
 use Rattle.roam_core.specs.ManyRealms.{AllRealms, no_state, state_at, tick_of, tick_from, to_tick}
 use Rattle.roam_core.specs.Steps.{IsAnswer}
 use Rattle.roam_core.specs.BrokerView.{states_of}

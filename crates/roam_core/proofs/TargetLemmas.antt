@@ -17,7 +17,7 @@ use Rattle.roam_realm.specs.Conversing.{same_end}
 use Rattle.roam_realm.specs.RealmConfig.{RealmConfig, coa_of, peer_ways, server_link, service_at, service_of}
 use Rattle.roam_realm.specs.ServerOrder.{behind, later_targets, links_to, places_of, server_order, server_ways, start_of}
 use Rattle.roam_realm.proofs.OrderLemmas.{behind-here, turned-count}
-use Rattle.roam_exchange.specs.OnRequest.{coa_links, is_reverse, targets}
+use Rattle.roam_realm.specs.OnRequest.{coa_links, is_reverse, targets}
 use Rattle.roam_realm.specs.declared.service.Service.{Service}
 use Rattle.roam_realm.specs.declared.service.Service.TheVariants as service
 use Rattle.roam_core.specs.Amplification.{Ends, TargetsAreFew, counted_links, is_counted, one_each}

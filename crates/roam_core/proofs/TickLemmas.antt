@@ -5,8 +5,8 @@ use Rattle.roam_conf.specs.Config.{ConfigView}
 use Rattle.roam_admission.specs.Admission.{PlainOut}
 use Rattle.roam_realm.specs.RealmConfig.{realm_config}
 use Rattle.roam_realm.specs.RealmState.{RealmState}
-use Rattle.roam_exchange.specs.Turn.{sends, packets_of, state_after}
-use Rattle.roam_exchange.specs.OnTick.{on_tick}
+use Rattle.roam_realm.specs.Turn.{sends, packets_of, state_after}
+use Rattle.roam_realm.specs.OnTick.{on_tick}
 use Rattle.roam_core.specs.Events.{is_in_shard}
 use Rattle.roam_core.specs.Isolation.{packets_for}
 use Rattle.roam_core.specs.ManyRealms.{state_at, tick_of, tick_from}

@@ -16,13 +16,13 @@ use Rattle.roam_realm.specs.RealmConfig.{RealmConfig, link_secret, seal_required
 use Rattle.roam_realm.specs.ServerOrder.{later_targets}
 use Rattle.roam_realm.specs.Rests.{after_silence}
 use Rattle.roam_realm.specs.RealmState.{RealmState, Target, chosen_target, with_rests}
-use Rattle.roam_exchange.specs.Turn.{Turn, state_after, in_time}
-use Rattle.roam_exchange.specs.Shares.{share_taken}
-use Rattle.roam_exchange.specs.OnRequest.{make_way, at_target, is_reverse, nak_or_new, new_request, of_key, reverse_cause, targets}
+use Rattle.roam_realm.specs.Turn.{Turn, state_after, in_time}
+use Rattle.roam_realm.specs.Shares.{share_taken}
+use Rattle.roam_realm.specs.OnRequest.{make_way, at_target, is_reverse, nak_or_new, new_request, of_key, reverse_cause, targets}
 use Rattle.roam_reply.specs.ReplyCheck.{reply_fault}
-use Rattle.roam_exchange.specs.OnReply.{reply_turn, passing_to, returning, to_entry, to_standing, shows_life}
-use Rattle.roam_exchange.specs.OnTick.{Progress, fail_over, once_refused, due_standing, due_entry, due_one, due_each, as_turn, given_up_at}
-use Rattle.roam_exchange.specs.OneRealm.{RealmEvent, request_came, reply_came, tick_came, on_event}
+use Rattle.roam_realm.specs.OnReply.{reply_turn, passing_to, returning, to_entry, to_standing, shows_life}
+use Rattle.roam_realm.specs.OnTick.{Progress, fail_over, once_refused, due_standing, due_entry, due_one, due_each, as_turn, given_up_at}
+use Rattle.roam_realm.specs.OneRealm.{RealmEvent, request_came, reply_came, tick_came, on_event}
 use Rattle.roam_realm.specs.declared.start.Start.{Start}
 use Rattle.roam_realm.specs.Conversing.{new_target}
 use Rattle.roam_core.specs.Openings.{state_then}

@@ -28,7 +28,7 @@ use Rattle.roam_admission.proofs.AlikeLemmas.{came}
 use Rattle.roam_admission.specs.Admission.{Arrival, Admission, checked, job_of, forwarded_for, answered_by, rejected_for, reversed, for_named_realm, accounted, accounting_in, by_accounting, is_answered_unnamed, is_unnamed, request_admission, packet_admission, sent_admission, status_from, is_status_request, is_taken, peer_secret, home_secret, has_few_attributes, is_rightly_signed, is_rightly_sealed, has_needed_seal, has_few_hops, has_seal, seal_required}
 use Rattle.roam_admission.specs.declared.job.Side.{Side}
 use Rattle.roam_admission.specs.declared.job.Side.TheVariants as side
-use Rattle.roam_exchange.specs.OneRealm.{RealmEvent}
+use Rattle.roam_realm.specs.OneRealm.{RealmEvent}
 use Rattle.roam_core.specs.Events.{given_by}
 use Rattle.roam_core.specs.Isolation.{is_realm}
 use Rattle.roam_core.proofs.NamedLemmas.{itself, only_own, seen}

@@ -4,7 +4,7 @@ use Rattle.std.specs.Prelude.{option_and_then}
 use Rattle.std.proofs.lemmas.List.{append_cancel_left}
 use Rattle.roam_conf.specs.declared.place.Link.{Link}
 use Rattle.roam_pending.specs.PlainEntry.{PlainRequest}
-use Rattle.roam_exchange.specs.OneRealm.{RealmEvent, request_came}
+use Rattle.roam_realm.specs.OneRealm.{RealmEvent, request_came}
 use Rattle.roam_core.specs.Lives.{Happening, Stage, event, goes_on, begins_anew, part_in, stage_after, stage_then}
 use Rattle.roam_core.specs.LifeOrigins.{IsRequestIn, IsToldIn}
 use Rattle.roam_core.specs.Told.{link_at, link_over, request_at, request_over}

@@ -10,12 +10,12 @@ use Rattle.roam_pending.specs.declared.key.Key.{Key}
 use Rattle.roam_pending.specs.PlainEntry.{PlainRequest}
 use Rattle.roam_realm.specs.RealmConfig.{RealmConfig, realm_config}
 use Rattle.roam_realm.specs.RealmState.{RealmState, Target}
-use Rattle.roam_exchange.specs.declared.happening.Became.{Became}
-use Rattle.roam_exchange.specs.declared.happening.Became.TheVariants as became
-use Rattle.roam_exchange.specs.Happenings.{PlainDue, PlainHappening, PlainWaited, answered_here, code_in, duplicate, event_happening, forwarded, held, nak, refused, returned, ticked}
-use Rattle.roam_exchange.specs.OneRealm.{RealmEvent, event_of, on_event, request_came, reply_came, tick_came}
-use Rattle.roam_exchange.specs.OnRequest.{forwarded_octets, nak_octets, packet_to_link, packet_to_requester}
-use Rattle.roam_exchange.specs.Turn.{packets_of}
+use Rattle.roam_realm.specs.declared.happening.Became.{Became}
+use Rattle.roam_realm.specs.declared.happening.Became.TheVariants as became
+use Rattle.roam_realm.specs.Happenings.{PlainDue, PlainHappening, PlainWaited, answered_here, code_in, duplicate, event_happening, forwarded, held, nak, refused, returned, ticked}
+use Rattle.roam_realm.specs.OneRealm.{RealmEvent, event_of, on_event, request_came, reply_came, tick_came}
+use Rattle.roam_realm.specs.OnRequest.{forwarded_octets, nak_octets, packet_to_link, packet_to_requester}
+use Rattle.roam_realm.specs.Turn.{packets_of}
 use Rattle.roam_core.specs.Events.{PlainEvent, arrives, ticks}
 use Rattle.roam_core.specs.HappeningsTo.{happening_to}
 use Rattle.roam_core.specs.ManyRealms.{answer_to, answers_to, states_after}

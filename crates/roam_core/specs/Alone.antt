@@ -4,8 +4,8 @@ use Rattle.std.specs.Prelude.{◌≡◌, ◌≤◌, List, [], ◌∷◌, ◌++�
 use Rattle.roam_conf.specs.Config.{ConfigView}
 use Rattle.roam_realm.specs.RealmConfig.{realm_config}
 use Rattle.roam_realm.specs.RealmState.{RealmState}
-use Rattle.roam_exchange.specs.OnTick.{Progress, silent}
-use Rattle.roam_exchange.specs.OneRealm.{one_realm_run}
+use Rattle.roam_realm.specs.OnTick.{Progress, silent}
+use Rattle.roam_realm.specs.OneRealm.{one_realm_run}
 use Rattle.roam_core.specs.Events.{PlainEvent, given_to_realm, rejects_by}
 use Rattle.roam_core.specs.ManyRealms.{AllRealms, answers_to}
 

@@ -17,9 +17,9 @@ use Rattle.roam_realm.specs.Conversing.{same_end}
 use Rattle.roam_realm.specs.RealmConfig.{RealmConfig, link_endpoint, service_of}
 use Rattle.roam_realm.specs.ServerOrder.{later_targets, places_of}
 use Rattle.roam_realm.specs.RealmState.{RealmState}
-use Rattle.roam_exchange.specs.Turn.{packets_of}
-use Rattle.roam_exchange.specs.OnRequest.{is_reverse, targets}
-use Rattle.roam_exchange.specs.OneRealm.{RealmEvent, request_came, reply_came, tick_came, on_event, one_realm_run}
+use Rattle.roam_realm.specs.Turn.{packets_of}
+use Rattle.roam_realm.specs.OnRequest.{is_reverse, targets}
+use Rattle.roam_realm.specs.OneRealm.{RealmEvent, request_came, reply_came, tick_came, on_event, one_realm_run}
 use Rattle.roam_realm.specs.declared.start.Start.{Start}
 use Rattle.roam_core.specs.Openings.{one_realm_packets}
 

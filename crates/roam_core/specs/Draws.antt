@@ -7,9 +7,9 @@ use Rattle.roam_pending.specs.declared.due.Due.{Due}
 use Rattle.roam_pending.specs.DueOrder.{due_list}
 use Rattle.roam_realm.specs.RealmConfig.{RealmConfig}
 use Rattle.roam_realm.specs.RealmState.{RealmState}
-use Rattle.roam_exchange.specs.Turn.{latest_moment, state_after}
-use Rattle.roam_exchange.specs.OnTick.{due_one}
-use Rattle.roam_exchange.specs.OneRealm.{RealmEvent, request_came, reply_came, tick_came, on_event}
+use Rattle.roam_realm.specs.Turn.{latest_moment, state_after}
+use Rattle.roam_realm.specs.OnTick.{due_one}
+use Rattle.roam_realm.specs.OneRealm.{RealmEvent, request_came, reply_came, tick_came, on_event}
 use Rattle.roam_realm.specs.declared.start.Start.{Start}
 use Rattle.roam_core.specs.Openings.{state_then}
 

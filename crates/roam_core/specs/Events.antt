@@ -3,7 +3,7 @@ use Rattle.std.specs.Prelude.{ℕ, ◌+◌, ◌==◌, ◌%◌, Bool, List, [], �
 use Rattle.std.specs.List.{list_any}
 use Rattle.roam_conf.specs.Config.{ConfigView}
 use Rattle.roam_admission.specs.Admission.{Arrival, PlainOut, Admission, refused, answered_here, admitted, admission}
-use Rattle.roam_exchange.specs.OneRealm.{RealmEvent, tick_came, event_of}
+use Rattle.roam_realm.specs.OneRealm.{RealmEvent, tick_came, event_of}
 
 -- an event, with its moment in milliseconds: a datagram arrives, or a shard's timer fires
 pub data PlainEvent : Type 0 where

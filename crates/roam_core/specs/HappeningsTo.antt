@@ -5,11 +5,11 @@ use Rattle.roam_conf.specs.Config.{ConfigView}
 use Rattle.roam_conf.specs.declared.exchange_lines.ExchangeLines.{ExchangeLines}
 use Rattle.roam_admission.specs.Admission as route
 use Rattle.roam_admission.specs.Admission.{Admission, PlainJob, admission}
-use Rattle.roam_exchange.specs.Happenings.{PlainDue, PlainHappening, answered_here, code_in, event_happening, refused, tick_happening, ticked}
-use Rattle.roam_exchange.specs.OneRealm.{event_of}
+use Rattle.roam_realm.specs.Happenings.{PlainDue, PlainHappening, answered_here, code_in, event_happening, refused, tick_happening, ticked}
+use Rattle.roam_realm.specs.OneRealm.{event_of}
 use Rattle.roam_realm.specs.RealmConfig.{realm_config}
 use Rattle.roam_realm.specs.RealmState.{RealmState}
-use Rattle.roam_exchange.specs.Turn.{latest_moment}
+use Rattle.roam_realm.specs.Turn.{latest_moment}
 use Rattle.roam_core.specs.Events.{PlainEvent, arrives, is_in_shard, ticks}
 use Rattle.roam_core.specs.ManyRealms.{state_at}
 

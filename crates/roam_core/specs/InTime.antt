@@ -4,9 +4,9 @@ use Rattle.std.specs.Prelude.{◌≡◌, ◌≤◌, ◌+◌, ◌*◌, ℕ, true,
 use Rattle.roam_pending.specs.ListLaws.{IsIn}
 use Rattle.roam_pending.specs.PlainEntry.{PlainEntry, PlainRequest, is_done}
 use Rattle.roam_realm.specs.RealmConfig.{RealmConfig}
-use Rattle.roam_exchange.specs.Turn.{latest_moment}
-use Rattle.roam_exchange.specs.OnRequest.{targets}
-use Rattle.roam_exchange.specs.OneRealm.{RealmEvent, request_came, reply_came, tick_came}
+use Rattle.roam_realm.specs.Turn.{latest_moment}
+use Rattle.roam_realm.specs.OnRequest.{targets}
+use Rattle.roam_realm.specs.OneRealm.{RealmEvent, request_came, reply_came, tick_came}
 use Rattle.roam_realm.specs.declared.start.Start.{Start}
 use Rattle.roam_core.specs.Amplification.{one_each}
 use Rattle.roam_core.specs.Openings.{state_then}

@@ -8,8 +8,8 @@ use Rattle.roam_pending.specs.ListLaws.{IsIn}
 use Rattle.roam_pending.specs.PlainEntry.{PlainEntry, PlainRequest}
 use Rattle.roam_realm.specs.RealmConfig.{RealmConfig}
 use Rattle.roam_realm.specs.RealmState.{Target}
-use Rattle.roam_exchange.specs.OnRequest.{draws, is_reverse}
-use Rattle.roam_exchange.specs.OneRealm.{RealmEvent}
+use Rattle.roam_realm.specs.OnRequest.{draws, is_reverse}
+use Rattle.roam_realm.specs.OneRealm.{RealmEvent}
 use Rattle.roam_core.specs.Lives.{Happening, Stage, draws_in, event, sent_in, stage_then}
 use Rattle.roam_core.specs.LifeOrigins.{ComesFromIn, HasOriginIn, IsForwardedIn, IsRequestIn, TakesTicketIn}
 use Rattle.roam_core.specs.Provenance.{forwarded_packet}

@@ -11,10 +11,10 @@ use Rattle.roam_pending.specs.PlainEntry.{PlainEntry, PlainRequest, PlainStandin
 use Rattle.roam_realm.specs.RealmConfig.{RealmConfig, link_secret, seal_required}
 use Rattle.roam_realm.specs.RealmState.{Target}
 use Rattle.roam_sessions.specs.declared.error_cause.TheConstants.{OTHER_PROXY_PROCESSING_ERROR}
-use Rattle.roam_exchange.specs.OnRequest.{packet_to_link, packet_to_requester, forwarded_octets, is_reverse, nak_octets, reverse_cause}
+use Rattle.roam_realm.specs.OnRequest.{packet_to_link, packet_to_requester, forwarded_octets, is_reverse, nak_octets, reverse_cause}
 use Rattle.roam_reply.specs.ReplyCheck.{reply_fault}
-use Rattle.roam_exchange.specs.OnReply.{returned_octets}
-use Rattle.roam_exchange.specs.OneRealm.{RealmEvent, request_came, reply_came, tick_came}
+use Rattle.roam_realm.specs.OnReply.{returned_octets}
+use Rattle.roam_realm.specs.OneRealm.{RealmEvent, request_came, reply_came, tick_came}
 use Rattle.roam_core.specs.Lives.{Happening, Stage, event, sent_at, stage_then}
 use Rattle.roam_core.specs.Occasions.{ForwardsOn, Occasion, occasions}
 use Rattle.roam_core.specs.Told.{link_over, request_over}

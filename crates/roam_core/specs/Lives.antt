@@ -5,8 +5,8 @@ use Rattle.roam_conf.specs.Config.{ConfigView}
 use Rattle.roam_admission.specs.Admission.{PlainOut}
 use Rattle.roam_realm.specs.RealmConfig.{RealmConfig, realm_config}
 use Rattle.roam_realm.specs.RealmState.{RealmState, opening}
-use Rattle.roam_exchange.specs.Turn.{packets_of, state_after}
-use Rattle.roam_exchange.specs.OneRealm.{RealmEvent, on_event}
+use Rattle.roam_realm.specs.Turn.{packets_of, state_after}
+use Rattle.roam_realm.specs.OneRealm.{RealmEvent, on_event}
 use Rattle.roam_migrate.specs.Reload.{carried}
 use Rattle.roam_core.specs.Draws.{drawn_by}
 use Rattle.roam_core.specs.Openings.{next_start}

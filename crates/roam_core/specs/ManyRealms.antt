@@ -7,9 +7,9 @@ use Rattle.roam_conf.specs.Config.{ConfigView}
 use Rattle.roam_admission.specs.Admission.{PlainOut, Admission, refused, answered_here, admitted, admission}
 use Rattle.roam_realm.specs.RealmConfig.{realm_config}
 use Rattle.roam_realm.specs.RealmState.{RealmState}
-use Rattle.roam_exchange.specs.Turn.{Turn, latest_moment, refuses, hears, sends, packets_of, state_after}
-use Rattle.roam_exchange.specs.OnTick.{on_tick}
-use Rattle.roam_exchange.specs.OneRealm.{event_of, on_event}
+use Rattle.roam_realm.specs.Turn.{Turn, latest_moment, refuses, hears, sends, packets_of, state_after}
+use Rattle.roam_realm.specs.OnTick.{on_tick}
+use Rattle.roam_realm.specs.OneRealm.{event_of, on_event}
 use Rattle.roam_core.specs.Events.{PlainEvent, arrives, ticks, is_in_shard}
 
 -- a refusal sends nothing and leaves all states as they were; that of a reply which is a sign of life leaves all

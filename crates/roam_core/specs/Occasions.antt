@@ -7,10 +7,10 @@ use Rattle.roam_pending.specs.DueOrder.{due_list}
 use Rattle.roam_pending.specs.PlainEntry.{PlainRequest}
 use Rattle.roam_realm.specs.RealmConfig.{RealmConfig}
 use Rattle.roam_realm.specs.RealmState.{RealmState, Target}
-use Rattle.roam_exchange.specs.Turn.{Turn, latest_moment, packets_of, state_after}
-use Rattle.roam_exchange.specs.OnRequest.{draws}
-use Rattle.roam_exchange.specs.OnTick.{Progress, due_one}
-use Rattle.roam_exchange.specs.OneRealm.{RealmEvent, request_came, reply_came, tick_came, on_event}
+use Rattle.roam_realm.specs.Turn.{Turn, latest_moment, packets_of, state_after}
+use Rattle.roam_realm.specs.OnRequest.{draws}
+use Rattle.roam_realm.specs.OnTick.{Progress, due_one}
+use Rattle.roam_realm.specs.OneRealm.{RealmEvent, request_came, reply_came, tick_came, on_event}
 use Rattle.roam_core.specs.Draws.{drawn_between}
 use Rattle.roam_core.specs.Provenance.{forwarded_packet}
 

@@ -8,8 +8,8 @@ use Rattle.roam_pending.specs.PlainEntry.{PlainEntry, PlainRequest, PlainStandin
 use Rattle.roam_realm.specs.RealmConfig.{RealmConfig}
 use Rattle.roam_realm.specs.ServerOrder.{later_targets}
 use Rattle.roam_realm.specs.RealmState.{RealmState}
-use Rattle.roam_exchange.specs.Turn.{state_after}
-use Rattle.roam_exchange.specs.OneRealm.{RealmEvent, request_came, on_event, one_realm_run}
+use Rattle.roam_realm.specs.Turn.{state_after}
+use Rattle.roam_realm.specs.OneRealm.{RealmEvent, request_came, on_event, one_realm_run}
 use Rattle.roam_core.specs.Amplification.{one_each}
 use Rattle.roam_core.specs.InTime.{longest_wait, moment_of}
 

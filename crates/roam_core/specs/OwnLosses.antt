@@ -10,9 +10,9 @@ use Rattle.roam_pending.specs.DueOrder.{due_list}
 use Rattle.roam_pending.specs.EntryList.{IsEntryList}
 use Rattle.roam_realm.specs.RealmConfig.{RealmConfig, realm_config}
 use Rattle.roam_realm.specs.RealmState.{RealmState}
-use Rattle.roam_exchange.specs.Rooms.{only_done_due}
-use Rattle.roam_exchange.specs.Turn.{latest_moment}
-use Rattle.roam_exchange.specs.OneRealm.{RealmEvent, request_came, reply_came, tick_came, one_realm_run}
+use Rattle.roam_realm.specs.Rooms.{only_done_due}
+use Rattle.roam_realm.specs.Turn.{latest_moment}
+use Rattle.roam_realm.specs.OneRealm.{RealmEvent, request_came, reply_came, tick_came, one_realm_run}
 use Rattle.roam_core.specs.Events.{PlainEvent, events_of_realm, given_to_realm, is_lost, kept}
 use Rattle.roam_core.specs.Isolation.{packets_for}
 use Rattle.roam_core.specs.ManyRealms.{state_at}

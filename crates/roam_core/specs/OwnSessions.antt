@@ -7,8 +7,8 @@ use Rattle.roam_admission.specs.Admission.{PlainOut}
 use Rattle.roam_sessions.specs.CauseLaws.{IsOfOneSession}
 use Rattle.roam_pending.specs.ListLaws.{IsIn}
 use Rattle.roam_pending.specs.PlainEntry.{PlainRequest}
-use Rattle.roam_exchange.specs.OnRequest.{is_reverse}
-use Rattle.roam_exchange.specs.OneRealm.{RealmEvent}
+use Rattle.roam_realm.specs.OnRequest.{is_reverse}
+use Rattle.roam_realm.specs.OneRealm.{RealmEvent}
 use Rattle.roam_realm.specs.RealmConfig.{RealmConfig, realm_config}
 use Rattle.roam_realm.specs.declared.start.Start.{Start}
 use Rattle.roam_core.specs.Events.{PlainEvent, events_of_realm}

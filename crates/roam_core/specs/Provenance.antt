@@ -9,12 +9,12 @@ use Rattle.roam_pending.specs.ListLaws.{IsIn}
 use Rattle.roam_pending.specs.PlainEntry.{PlainEntry, PlainRequest, PlainStanding, waiting, done}
 use Rattle.roam_realm.specs.RealmConfig.{RealmConfig, link_secret, realm_config, seal_required}
 use Rattle.roam_realm.specs.RealmState.{Target}
-use Rattle.roam_exchange.specs.Turn.{packets_of}
+use Rattle.roam_realm.specs.Turn.{packets_of}
 use Rattle.roam_sessions.specs.declared.error_cause.TheConstants.{OTHER_PROXY_PROCESSING_ERROR}
-use Rattle.roam_exchange.specs.OnRequest.{packet_to_link, packet_to_requester, draws, forwarded_octets, is_reverse, nak_octets, reverse_cause}
+use Rattle.roam_realm.specs.OnRequest.{packet_to_link, packet_to_requester, draws, forwarded_octets, is_reverse, nak_octets, reverse_cause}
 use Rattle.roam_reply.specs.ReplyCheck.{reply_fault}
-use Rattle.roam_exchange.specs.OnReply.{returned_octets}
-use Rattle.roam_exchange.specs.OneRealm.{RealmEvent, request_came, reply_came, tick_came, on_event}
+use Rattle.roam_realm.specs.OnReply.{returned_octets}
+use Rattle.roam_realm.specs.OneRealm.{RealmEvent, request_came, reply_came, tick_came, on_event}
 use Rattle.roam_realm.specs.declared.start.Start.{Start}
 use Rattle.roam_core.specs.Draws.{DrawsAt}
 use Rattle.roam_core.specs.Events.{PlainEvent, events_of_realm}

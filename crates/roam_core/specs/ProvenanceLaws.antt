@@ -5,7 +5,7 @@ use Rattle.roam_pending.specs.ListLaws.{IsIn}
 use Rattle.roam_pending.specs.PlainEntry.{PlainEntry, PlainRequest}
 use Rattle.roam_realm.specs.RealmConfig.{RealmConfig}
 use Rattle.roam_realm.specs.RealmState.{opening}
-use Rattle.roam_exchange.specs.OneRealm.{RealmEvent}
+use Rattle.roam_realm.specs.OneRealm.{RealmEvent}
 use Rattle.roam_realm.specs.declared.start.Start.{Start}
 use Rattle.roam_core.specs.Draws.{DrawsAt, drawn}
 use Rattle.roam_core.specs.Openings.{one_realm_packets, state_then}

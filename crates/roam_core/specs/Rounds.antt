@@ -7,9 +7,9 @@ use Rattle.roam_pending.specs.EntryList.{IsInOrder}
 use Rattle.roam_pending.specs.PlainEntry.{PlainEntry, deadline_of, is_done}
 use Rattle.roam_realm.specs.RealmConfig.{RealmConfig}
 use Rattle.roam_realm.specs.RealmState.{RealmState}
-use Rattle.roam_exchange.specs.Happenings.{PlainDue, tick_happening}
-use Rattle.roam_exchange.specs.OneRealm.{RealmEvent, on_event, tick_came}
-use Rattle.roam_exchange.specs.Turn.{state_after}
+use Rattle.roam_realm.specs.Happenings.{PlainDue, tick_happening}
+use Rattle.roam_realm.specs.OneRealm.{RealmEvent, on_event, tick_came}
+use Rattle.roam_realm.specs.Turn.{state_after}
 use Rattle.roam_core.specs.HappeningsTo.{dues_told}
 use Rattle.roam_core.specs.InTime.{moment_of}
 

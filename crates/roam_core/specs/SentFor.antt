@@ -10,9 +10,9 @@ use Rattle.roam_pending.specs.PlainEntry.{PlainEntry, PlainRequest}
 use Rattle.roam_pending.specs.EntryList.{find_link}
 use Rattle.roam_realm.specs.RealmConfig.{RealmConfig}
 use Rattle.roam_realm.specs.RealmState.{RealmState, opening}
-use Rattle.roam_exchange.specs.Turn.{latest_moment, packets_of, state_after}
-use Rattle.roam_exchange.specs.OnTick.{due_one}
-use Rattle.roam_exchange.specs.OneRealm.{RealmEvent, request_came, reply_came, tick_came, on_event}
+use Rattle.roam_realm.specs.Turn.{latest_moment, packets_of, state_after}
+use Rattle.roam_realm.specs.OnTick.{due_one}
+use Rattle.roam_realm.specs.OneRealm.{RealmEvent, request_came, reply_came, tick_came, on_event}
 use Rattle.roam_realm.specs.declared.start.Start.{Start}
 use Rattle.roam_core.specs.Provenance.{TakesTicket}
 use Rattle.roam_core.specs.Amplification.{Ends, counted, may_cause}

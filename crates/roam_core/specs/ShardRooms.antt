@@ -3,8 +3,8 @@ use Rattle.std.specs.Prelude.{◌≡◌, ℕ, ◌+◌, ◌&&◌, ◌||◌, Bool,
 use Rattle.roam_conf.specs.Config.{ConfigView}
 use Rattle.roam_pending.specs.PlainEntry.{PlainEntry}
 use Rattle.roam_realm.specs.RealmState.{RealmState}
-use Rattle.roam_exchange.specs.Rooms.{IsRoomFor, only_done_due}
-use Rattle.roam_exchange.specs.declared.tick_memory.Room.{Room}
+use Rattle.roam_realm.specs.Rooms.{IsRoomFor, only_done_due}
+use Rattle.roam_realm.specs.declared.tick_memory.Room.{Room}
 use Rattle.roam_core.specs.Events.{is_in_shard}
 
 -- how many packets a realm sends at most, in the room that was made for it, if one was

@@ -2,7 +2,7 @@
 
 ghost use Rattle.std.specs.Prelude.{◌≡◌, ◌++◌, ◌∷◌, [], IfOk, List, OnErr, OnOk, length};
 ghost use Rattle.std.specs.List.{AllByRecursion};
-ghost use Rattle.roam_exchange.specs.Turn.{shown_outs};
+ghost use Rattle.roam_realm.specs.Turn.{shown_outs};
 ghost use Rattle.roam_realm.specs.declared.start.Start.{Start};
 ghost use Rattle.roam_core.specs.ManyRealms.{answers_to};
 ghost use Rattle.roam_core.specs.Openings.{openings};
@@ -16,7 +16,7 @@ ghost use Rattle.roam_core.specs.Shown.{shown_events};
 use crate::event::Event;
 use crate::stepper::Stepper;
 use roam_admission::Out;
-use roam_exchange::Outs;
+use roam_realm::Outs;
 use roam_wire::NoMemory;
 use std::alloc::Allocator;
 

@@ -3,14 +3,14 @@
 ghost use Rattle.std.specs.Prelude.{◌≡◌, ◌+◌, ◌≤◌, ◌&&◌, ◌||◌, [], length, not, IfOk, vec_len};
 ghost use Rattle.std.specs.Prelude.{vec_capacity};
 ghost use Rattle.roam_conf.specs.Shown.{shown};
-ghost use Rattle.roam_exchange.specs.Rooms.{only_done_due};
+ghost use Rattle.roam_realm.specs.Rooms.{only_done_due};
 ghost use Rattle.roam_core.specs.BrokerView.{states_of};
 ghost use Rattle.roam_core.specs.Events.{is_in_shard};
 ghost use Rattle.roam_core.specs.ShardRooms.{AreRooms, IsRealmRoom, most_of, most_of_all, only_done_from};
 
 use roam_admission::Out;
 use roam_conf::Config;
-use roam_exchange::Room;
+use roam_realm::Room;
 use roam_rules::Book;
 use roam_wire::NoMemory;
 use std::alloc::Allocator;

@@ -9,7 +9,7 @@ ghost use Rattle.roam_core.specs.Steps.{EventWantsMemory, GivesAnswer};
 ghost use Rattle.roam_core.specs.Shown.{shown_event};
 
 use crate::event::Event;
-use roam_exchange::Answer;
+use roam_realm::Answer;
 use roam_wire::NoMemory;
 use std::alloc::Allocator;
 

@@ -4,10 +4,10 @@ use Rattle.std.specs.List.{flat_map}
 use Rattle.roam_wire.specs.declared.refusal.Refusal.{Refusal}
 use Rattle.roam_conf.specs.declared.place.Place.{Place}
 use Rattle.roam_conf.specs.declared.place.Place.TheVariants as place
-use Rattle.roam_exchange.specs.Happenings as happenings
-use Rattle.roam_exchange.specs.Happenings.{PlainHappening}
-use Rattle.roam_exchange.specs.HappeningsShown.{left_in, shown_happening}
-use Rattle.roam_exchange.specs.declared.happening.Happening.{Happening}
+use Rattle.roam_realm.specs.Happenings as happenings
+use Rattle.roam_realm.specs.Happenings.{PlainHappening}
+use Rattle.roam_realm.specs.HappeningsShown.{left_in, shown_happening}
+use Rattle.roam_realm.specs.declared.happening.Happening.{Happening}
 use Rattle.roam_counters.specs.Increments.{due_increments, left_increments, one}
 use Rattle.roam_counters.specs.Turns.{arrival_event, sender_of}
 use Rattle.roam_counters.specs.declared.cell.Subject.{Subject}

@@ -5,13 +5,13 @@ use Rattle.roam_conf.specs.declared.place.Link.{Link}
 use Rattle.roam_conf.specs.declared.place.Link.TheVariants as link
 use Rattle.roam_pending.specs.declared.key.Requester.{Requester}
 use Rattle.roam_pending.specs.declared.key.Requester.TheVariants as requester
-use Rattle.roam_exchange.specs.Happenings as happenings
-use Rattle.roam_exchange.specs.Happenings.{PlainDue, PlainHappening, PlainWaited}
-use Rattle.roam_exchange.specs.HappeningsShown.{shown_replaced, shown_waited}
-use Rattle.roam_exchange.specs.declared.happening.Became.{Became}
-use Rattle.roam_exchange.specs.declared.happening.Became.TheVariants as became
-use Rattle.roam_exchange.specs.declared.happening.LeftConversation.{LeftConversation}
-use Rattle.roam_exchange.specs.declared.happening.Waited.{Waited}
+use Rattle.roam_realm.specs.Happenings as happenings
+use Rattle.roam_realm.specs.Happenings.{PlainDue, PlainHappening, PlainWaited}
+use Rattle.roam_realm.specs.HappeningsShown.{shown_replaced, shown_waited}
+use Rattle.roam_realm.specs.declared.happening.Became.{Became}
+use Rattle.roam_realm.specs.declared.happening.Became.TheVariants as became
+use Rattle.roam_realm.specs.declared.happening.LeftConversation.{LeftConversation}
+use Rattle.roam_realm.specs.declared.happening.Waited.{Waited}
 use Rattle.roam_counters.specs.Delays.{delay_of}
 use Rattle.roam_counters.specs.Ends.{source_of, subject_of}
 use Rattle.roam_counters.specs.Kinds.{cause_of, reply_of, request_of}

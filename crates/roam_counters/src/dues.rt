@@ -1,7 +1,7 @@
 //! The counts that rise by what became of a request in a tick.
 
 ghost use Rattle.std.specs.Prelude.{◌≡◌};
-ghost use Rattle.roam_exchange.specs.HappeningsShown.{shown_due, shown_waited};
+ghost use Rattle.roam_realm.specs.HappeningsShown.{shown_due, shown_waited};
 ghost use Rattle.roam_counters.specs.Increments as spec;
 
 use crate::cell::Subject;
@@ -11,7 +11,7 @@ use crate::event_of_code::{nak_by_tick, sent_again, taken_over};
 use crate::increments::{Increments, of_waited, one, requester_of};
 use crate::kinds::NakCause;
 use roam_conf::Link;
-use roam_exchange::{Became, DueHappening, Waited};
+use roam_realm::{Became, DueHappening, Waited};
 use std::alloc::Allocator;
 
 /// Returns the counts that rise where a request goes to another server.

@@ -1,7 +1,7 @@
 //! The counts that rise by what happened, of whom, and by how much.
 
 ghost use Rattle.std.specs.Prelude.{◌≡◌};
-ghost use Rattle.roam_exchange.specs.HappeningsShown.{shown_happening, shown_waited};
+ghost use Rattle.roam_realm.specs.HappeningsShown.{shown_happening, shown_waited};
 ghost use Rattle.roam_counters.specs.Increments as spec;
 
 use crate::cell::Subject;
@@ -11,8 +11,8 @@ use crate::event::CountedEvent;
 use crate::event_of_code::{answered, forwarded, nak_at_once, nak_cause, returned};
 use crate::turn::CountedTurn;
 use roam_conf::Link;
-use roam_exchange::{Happening, Waited};
 use roam_pending::Requester;
+use roam_realm::{Happening, Waited};
 use roam_wire::Refusal;
 use roam_wire::code::ACCESS_REJECT;
 use std::alloc::Allocator;

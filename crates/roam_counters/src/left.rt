@@ -5,7 +5,7 @@ ghost use Rattle.roam_counters.specs.Increments as spec;
 
 use crate::event::CountedEvent;
 use crate::increments::{Increments, of_waited};
-use roam_exchange::LeftConversation;
+use roam_realm::LeftConversation;
 use std::alloc::Allocator;
 
 /// Returns the counts that rise by a conversation that was left.

@@ -2,7 +2,7 @@
 
 use crate::fault::HubFault;
 use roam_admission::Job;
-use roam_exchange::{Answer, Happening};
+use roam_realm::{Answer, Happening};
 use std::alloc::Allocator;
 
 /// The answer to a call that was recorded.

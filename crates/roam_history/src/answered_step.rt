@@ -1,7 +1,7 @@
 //! A step with its answer, as a history has it: in proofs alone.
 
 use roam_core::Event;
-use roam_exchange::Answer;
+use roam_realm::Answer;
 use std::alloc::Global;
 use std::marker::Model;
 

@@ -9,7 +9,7 @@ use crate::head::Head;
 use crate::opened::Opened;
 use crate::rule::{Add, Close, HistoryEntry, LastStep, LetGo, Nothing, OneHistory};
 use logbook::{Offer, Plain, Seen};
-use roam_exchange::Answer;
+use roam_realm::Answer;
 use roam_shard::Traced;
 use std::alloc::Allocator;
 use std::marker::{Model, PhantomData};

@@ -66,7 +66,8 @@ pub use moment::{LATE, MOST, moment_of_tick};
 pub use opened::Opened;
 pub use receipt::Receipt;
 pub use report::Report;
-pub use roam_exchange::{Became, DueHappening, Happening, LeftConversation, Waited};
-pub use roam_realm::{Gauges, SERVER_LINKS};
+pub use roam_realm::{
+    Became, DueHappening, Gauges, Happening, LeftConversation, SERVER_LINKS, Waited,
+};
 pub use seat::{Seat, no_tallies, no_times, split};
 pub use tally::Tally;

@@ -8,7 +8,7 @@ ghost use Rattle.roam_history.specs.Entries.{steps_in};
 use crate::front::Front;
 use crate::opened::Opened;
 use roam_core::Event;
-use roam_exchange::Answer;
+use roam_realm::Answer;
 use std::alloc::Allocator;
 
 /// Receipt: what a caller gets for a recorded call. Who has one knows that its step stands in the one

@@ -2,7 +2,7 @@
 
 use crate::answered_step::AnsweredStep;
 use logbook::{Gain, Plain, Play, Rule};
-use roam_exchange::Answer;
+use roam_realm::Answer;
 use roam_shard::Traced;
 use std::alloc::Allocator;
 

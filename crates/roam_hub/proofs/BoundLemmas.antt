@@ -4,7 +4,7 @@ use Rattle.roam_conf.specs.Config.{ConfigView}
 use Rattle.roam_pending.specs.ListLaws.{IsIn}
 use Rattle.roam_realm.specs.RealmConfig.{realm_config}
 use Rattle.roam_realm.specs.RealmState.{RealmState, opening}
-use Rattle.roam_exchange.specs.OneRealm.{RealmEvent, one_realm_run}
+use Rattle.roam_realm.specs.OneRealm.{RealmEvent, one_realm_run}
 use Rattle.roam_realm.specs.declared.start.Start.{Start}
 use Rattle.roam_core.specs.Amplification.{counted, may_still_follow}
 use Rattle.roam_core.specs.Events.{events_of_realm}

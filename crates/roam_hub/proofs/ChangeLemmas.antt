@@ -5,7 +5,7 @@ use Rattle.roam_conf.specs.Config.{ConfigView}
 use Rattle.roam_admission.specs.Admission.{PlainOut}
 use Rattle.roam_realm.specs.RealmConfig.{realm_config}
 use Rattle.roam_realm.specs.RealmState.{RealmState}
-use Rattle.roam_exchange.specs.OneRealm.{RealmEvent, one_realm_run}
+use Rattle.roam_realm.specs.OneRealm.{RealmEvent, one_realm_run}
 use Rattle.roam_migrate.specs.Reload.{HasPlaces, carried}
 use Rattle.roam_migrate.proofs.CarriedPlacesLemmas.{carried_has_places}
 use Rattle.roam_migrate.proofs.PlacesLemmas.{places_stay}

@@ -3,7 +3,7 @@ use Rattle.std.proofs.Common.{◌≡◌, ◌↔◌, Bool, false, ℕ, ◌+◌, �
 use Rattle.std.proofs.lemmas.List.{length-append, get_or-set_same, get_or-set_other}
 use mathlib.Core.List.{IsPrefix}
 use Rattle.roam_conf.specs.declared.exchange_lines.ExchangeLines.{ExchangeLines}
-use Rattle.roam_exchange.specs.Happenings.{PlainHappening}
+use Rattle.roam_realm.specs.Happenings.{PlainHappening}
 use Rattle.roam_core.specs.Events.{PlainEvent}
 use Rattle.roam_core.specs.HappeningsTo.{happening_to}
 use Rattle.roam_shard.specs.History.{Beginning, Ends, GoesOn, IsHistory, begun, TraceView, end_of, step_at, stored_steps, with_event, without_steps}

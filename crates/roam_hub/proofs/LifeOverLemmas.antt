@@ -8,7 +8,7 @@ use Rattle.roam_pending.specs.ListLaws.{IsIn}
 use Rattle.roam_pending.specs.PlainEntry.{PlainEntry}
 use Rattle.roam_realm.specs.RealmConfig.{RealmConfig, realm_config}
 use Rattle.roam_realm.specs.RealmState.{RealmState}
-use Rattle.roam_exchange.specs.OneRealm.{one_realm_run}
+use Rattle.roam_realm.specs.OneRealm.{one_realm_run}
 use Rattle.roam_migrate.specs.Reload.{carried}
 use Rattle.roam_core.specs.Draws.{drawn}
 use Rattle.roam_core.specs.Events.{is_in_shard}

@@ -7,7 +7,7 @@ use Rattle.roam_pending.specs.DueOrder.{due_at, due_list}
 use Rattle.roam_pending.specs.PlainEntry.{PlainEntry, deadline_of}
 use Rattle.roam_pending.proofs.DueListLemmas.{in-due}
 use Rattle.roam_realm.specs.RealmState.{RealmState}
-use Rattle.roam_exchange.specs.OneRealm.{RealmEvent, one_realm_run}
+use Rattle.roam_realm.specs.OneRealm.{RealmEvent, one_realm_run}
 use Rattle.roam_core.specs.ManyRealms.{state_at}
 use Rattle.roam_core.specs.OnTime.{WasNotDue}
 use Rattle.roam_core.proofs.OnTimeLemmas.{no_request_waits_longer, none_waits_longer_from, rounds_are_on_time}

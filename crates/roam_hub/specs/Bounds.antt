@@ -3,8 +3,8 @@ use Rattle.std.specs.Prelude.{◌≡◌, ◌≤◌, ◌<◌, ◌+◌, ℕ, true,
 use Rattle.roam_pending.specs.ListLaws.{IsIn}
 use Rattle.roam_pending.specs.PlainEntry.{PlainEntry, PlainRequest, is_done}
 use Rattle.roam_realm.specs.RealmConfig.{realm_config}
-use Rattle.roam_exchange.specs.Turn.{latest_moment}
-use Rattle.roam_exchange.specs.OneRealm.{RealmEvent, request_came}
+use Rattle.roam_realm.specs.Turn.{latest_moment}
+use Rattle.roam_realm.specs.OneRealm.{RealmEvent, request_came}
 use Rattle.roam_core.specs.Amplification.{Ends, counted, may_be_caused, may_still_follow}
 use Rattle.roam_core.specs.Events.{events_of_realm}
 use Rattle.roam_core.specs.InTime.{AreInTime, last_moment, longest_wait}

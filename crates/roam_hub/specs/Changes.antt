@@ -5,8 +5,8 @@ use Rattle.roam_reload.specs.Reload.{IsCarried, IsUntouched}
 use Rattle.roam_admission.specs.Admission.{PlainOut}
 use Rattle.roam_realm.specs.RealmConfig.{realm_config}
 use Rattle.roam_realm.specs.RealmState.{RealmState, opening}
-use Rattle.roam_exchange.specs.OnTick.{Progress, silent}
-use Rattle.roam_exchange.specs.OneRealm.{RealmEvent, one_realm_run}
+use Rattle.roam_realm.specs.OnTick.{Progress, silent}
+use Rattle.roam_realm.specs.OneRealm.{RealmEvent, one_realm_run}
 use Rattle.roam_migrate.specs.Reload.{HasPlaces, carried}
 use Rattle.roam_core.specs.Events.{events_of_realm, is_in_shard}
 use Rattle.roam_core.specs.Isolation.{packets_for}

@@ -6,7 +6,7 @@ use Rattle.roam_admission.specs.Admission.{PlainOut}
 use Rattle.roam_pending.specs.ListLaws.{IsIn}
 use Rattle.roam_realm.specs.RealmConfig.{realm_config}
 use Rattle.roam_realm.specs.RealmState.{RealmState}
-use Rattle.roam_exchange.specs.OneRealm.{RealmEvent}
+use Rattle.roam_realm.specs.OneRealm.{RealmEvent}
 use Rattle.roam_core.specs.Draws.{drawn}
 use Rattle.roam_core.specs.Isolation.{packets_for}
 use Rattle.roam_core.specs.Lives.{Happening, Stage, draws_in, event, goes_on, begins_anew, sent_in, stage_then}

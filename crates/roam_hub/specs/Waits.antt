@@ -6,8 +6,8 @@ use Rattle.roam_pending.specs.ListLaws.{IsIn}
 use Rattle.roam_pending.specs.PlainEntry.{PlainEntry, PlainRequest, is_done}
 use Rattle.roam_realm.specs.RealmConfig.{RealmConfig, realm_config}
 use Rattle.roam_realm.specs.RealmState.{RealmState}
-use Rattle.roam_exchange.specs.OneRealm.{RealmEvent, request_came, on_event}
-use Rattle.roam_exchange.specs.Turn.{state_after}
+use Rattle.roam_realm.specs.OneRealm.{RealmEvent, request_came, on_event}
+use Rattle.roam_realm.specs.Turn.{state_after}
 use Rattle.roam_core.specs.Events.{events_of_realm}
 use Rattle.roam_core.specs.InTime.{longest_wait, moment_of}
 use Rattle.roam_core.specs.ManyRealms.{state_at}

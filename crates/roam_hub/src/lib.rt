@@ -83,11 +83,12 @@ pub use laws::{
 };
 pub use pause_room::PauseRoom;
 pub use pausing::PausedHub;
-pub use roam_exchange::{Became, DueHappening, Happening, LeftConversation, Waited};
 pub use roam_history::{
     Answered, AuditFault, Audited, Blanks, Front, HubFault, LATE, MOST, Opened, Receipt, Refused,
     Report, Seat, Ticked, split,
 };
 pub use roam_pending::{Key, Requester};
-pub use roam_realm::{Gauges, Rest, SERVER_LINKS};
+pub use roam_realm::{
+    Became, DueHappening, Gauges, Happening, LeftConversation, Rest, SERVER_LINKS, Waited,
+};
 pub use roam_shard::{Declined, Paused, follow};

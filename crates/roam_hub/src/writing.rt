@@ -8,8 +8,8 @@ ghost use Rattle.roam_shard.specs.Steps.{PlainStep, shown_answer};
 ghost use Rattle.roam_history.specs.Entries.{IsOpen, closed_entry, last_of, let_go_entry, step_entry, steps_in};
 ghost use Rattle.roam_history.specs.Seats.{after_call};
 
-use roam_exchange::Answer;
 use roam_history::{Front, Head, Opened, Seat};
+use roam_realm::Answer;
 use roam_shard::Traced;
 use std::alloc::Allocator;
 use std::sync::Wait;

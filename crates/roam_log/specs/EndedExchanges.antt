@@ -9,7 +9,7 @@ use Rattle.roam_conf.specs.declared.place.Link.TheVariants as link
 use Rattle.roam_pending.specs.declared.course.Course.{Course}
 use Rattle.roam_pending.specs.declared.key.Requester.{Requester}
 use Rattle.roam_pending.specs.declared.key.Requester.TheVariants as requester
-use Rattle.roam_exchange.specs.Happenings.{PlainWaited}
+use Rattle.roam_realm.specs.Happenings.{PlainWaited}
 use Rattle.roam_log.specs.Exchanges.{is_abandoned}
 use Rattle.roam_log.specs.Said.{AreTold, charged_by, error_cause_in}
 use Rattle.roam_log.specs.Values.{no_value, octets_if}

@@ -2,15 +2,15 @@
 
 ghost use Rattle.std.specs.Prelude.{◌≡◌, ◌-◌, ◌↔◌, IsSome, IsTrue};
 ghost use Rattle.roam_conf.specs.Shown.{shown};
-ghost use Rattle.roam_exchange.specs.HappeningsShown.{shown_waited};
+ghost use Rattle.roam_realm.specs.HappeningsShown.{shown_waited};
 ghost use Rattle.roam_log.specs.EndedExchanges as spec;
 ghost use Rattle.roam_log.specs.EndedExchanges.{IsLineOf};
 
 use crate::exchange::{Exchange, ExchangeEnd, Silence};
 use crate::said::{error_cause_of, keep_charged, say};
 use roam_conf::{Config, Endpoint, Link};
-use roam_exchange::Waited;
 use roam_pending::{Course, Requester};
+use roam_realm::Waited;
 use std::alloc::Allocator;
 
 /// Returns the endpoint of a realm's link to a home server. Returns `None` where the link is a peer's, or isn't

@@ -3,15 +3,15 @@
 ghost use Rattle.std.specs.Prelude.{◌≡◌, ◌+◌, ◌-◌, ◌^◌, ◌<◌, ◌≤◌, ◌↔◌, [], Some, None, IfSome, IsFalse, IsNone, IsSome, IsTrue, min, unwrap_or};
 ghost use Rattle.std.specs.Option.{ForSome};
 ghost use Rattle.roam_conf.specs.Shown.{shown};
-ghost use Rattle.roam_exchange.specs.HappeningsShown.{shown_waited};
+ghost use Rattle.roam_realm.specs.HappeningsShown.{shown_waited};
 ghost use Rattle.roam_log.specs.EndedExchanges.{IsLineOf};
 ghost use Rattle.roam_log.specs.Exchanges.{is_told};
 ghost use Rattle.roam_log.specs.Folded.{IsCounted};
 
 use crate::notices::SECOND;
 use roam_conf::{Config, ExchangeLines};
-use roam_exchange::Waited;
 use roam_log::{EndedWith, Exchange, ExchangeEnd, FoldedLines, tell_of};
+use roam_realm::Waited;
 use rtrb::{Consumer, Producer, RingBuffer};
 use std::alloc::{AllocError, Global};
 use std::slice;

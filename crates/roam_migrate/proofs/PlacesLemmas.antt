@@ -14,15 +14,15 @@ use Rattle.roam_pending.specs.PlainEntry.{PlainRequest, PlainStanding, PlainEntr
 use Rattle.roam_pending.specs.EntryList.{find_client, find_link, find_ticket, first_done, without_client}
 use Rattle.roam_realm.specs.RealmConfig.{RealmConfig, link_count, link_place, link_secret, seal_required, server_link_count}
 use Rattle.roam_realm.specs.RealmState.{RealmState, Target, with_rests}
-use Rattle.roam_exchange.specs.Turn.{Turn, state_after}
-use Rattle.roam_exchange.specs.Shares.{share_taken}
+use Rattle.roam_realm.specs.Turn.{Turn, state_after}
+use Rattle.roam_realm.specs.Shares.{share_taken}
 use Rattle.roam_realm.specs.Conversing.{bound_target, new_target, rests_for}
-use Rattle.roam_exchange.specs.OnRequest.{admit, at_target, is_reverse, make_way, nak_or_new, of_key, on_request, reverse_cause, targets}
-use Rattle.roam_exchange.specs.OnReply.{reply_turn, on_reply, passing_to, reply_fault, returning, shows_life, to_entry, to_standing}
-use Rattle.roam_exchange.specs.OnTick.{Progress, due_each, due_entry, due_one, due_standing, fail_over, given_up_at, once_refused}
-use Rattle.roam_exchange.specs.OneRealm.{RealmEvent, on_event, one_realm_run, reply_came, request_came, tick_came}
+use Rattle.roam_realm.specs.OnRequest.{admit, at_target, is_reverse, make_way, nak_or_new, of_key, on_request, reverse_cause, targets}
+use Rattle.roam_realm.specs.OnReply.{reply_turn, on_reply, passing_to, reply_fault, returning, shows_life, to_entry, to_standing}
+use Rattle.roam_realm.specs.OnTick.{Progress, due_each, due_entry, due_one, due_standing, fail_over, given_up_at, once_refused}
+use Rattle.roam_realm.specs.OneRealm.{RealmEvent, on_event, one_realm_run, reply_came, request_came, tick_came}
 use Rattle.roam_migrate.specs.Reload.{PlacesStay}
-use Rattle.roam_exchange.proofs.RestLemmas.{either, rests-stay}
+use Rattle.roam_realm.proofs.RestLemmas.{either, rests-stay}
 
 -- so many cursors stay of a state, after a turn, and after some packets
 abbrev Has : ℕ → RealmState → Type 0

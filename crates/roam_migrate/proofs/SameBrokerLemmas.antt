@@ -36,18 +36,18 @@ use Rattle.roam_sessions.specs.Target.{target}
 use Rattle.roam_sessions.specs.declared.error_cause.TheConstants.{OTHER_PROXY_PROCESSING_ERROR}
 use Rattle.roam_admission.specs.Admission.{PlainOut}
 use Rattle.roam_realm.specs.Shapings.{removed_for, shaping_of, shaping_to}
-use Rattle.roam_exchange.specs.Shares.{share_taken}
-use Rattle.roam_exchange.specs.OneRealm.{RealmEvent, request_came, reply_came, tick_came, on_event, one_realm_run}
-use Rattle.roam_exchange.specs.OnReply.{counted, counted_peer, reply_turn, on_reply, once_returned, return_reply, returned_octets, returning, to_entry, to_standing, once_heard_from, shows_life}
-use Rattle.roam_exchange.specs.OnRequest.{admit, at_target, coa_links, first_seen, forwarded_entry, forwarded_octets, is_reverse, make_way, nak_octets, nak_or_new, new_request, of_key, on_request, once_forwarded, packet_to_link, position_after, drawn_at, packet_to_requester, held_reply, reverse_cause, targets}
-use Rattle.roam_exchange.specs.OnTick.{Progress, as_turn, due_each, due_entry, due_one, due_standing, fail_over, given_up, given_up_at, on_tick, once_refused, silent, without_entry}
+use Rattle.roam_realm.specs.Shares.{share_taken}
+use Rattle.roam_realm.specs.OneRealm.{RealmEvent, request_came, reply_came, tick_came, on_event, one_realm_run}
+use Rattle.roam_realm.specs.OnReply.{counted, counted_peer, reply_turn, on_reply, once_returned, return_reply, returned_octets, returning, to_entry, to_standing, once_heard_from, shows_life}
+use Rattle.roam_realm.specs.OnRequest.{admit, at_target, coa_links, first_seen, forwarded_entry, forwarded_octets, is_reverse, make_way, nak_octets, nak_or_new, new_request, of_key, on_request, once_forwarded, packet_to_link, position_after, drawn_at, packet_to_requester, held_reply, reverse_cause, targets}
+use Rattle.roam_realm.specs.OnTick.{Progress, as_turn, due_each, due_entry, due_one, due_standing, fail_over, given_up, given_up_at, on_tick, once_refused, silent, without_entry}
 use Rattle.roam_realm.specs.RealmConfig.{RealmConfig, end_place, link_endpoint, link_place, link_secret, nowhere, requester_secret, seal_required, service_of, ways_to}
 use Rattle.roam_realm.specs.ServerOrder.{behind, later_targets, links_to, server_order, server_targets, server_ways}
 use Rattle.roam_realm.specs.declared.service.Service.{Service}
 use Rattle.roam_realm.specs.declared.service.Service.TheVariants as service
 use Rattle.roam_realm.specs.RealmState.{RealmState, Target, chosen_target, first_target, is_used_on, next_toward, ready_links, this_or, with_entries, with_next_ticket, with_rests}
 use Rattle.roam_realm.specs.Rests.{after_choice, after_silence, awake, is_resting, once_chosen, once_silent, rest_of, stands_back, after_sign, has_moment, once_heard, signs_of}
-use Rattle.roam_exchange.specs.Turn.{Turn, in_time, packets_of, refuses, sends, state_after, hears}
+use Rattle.roam_realm.specs.Turn.{Turn, in_time, packets_of, refuses, sends, state_after, hears}
 use Rattle.roam_realm.specs.declared.rest.Rest.{Rest}
 use Rattle.roam_realm.specs.Conversing.{asked_state, bound_link, bound_links, bound_target, new_target, rests_by, rests_chosen, rests_for, untried}
 use Rattle.roam_migrate.specs.Reload.{Carries}

@@ -2,7 +2,7 @@
 use Rattle.std.proofs.Common.{◌≡◌, ℕ, ◌+◌, ◌-◌, ◌*◌, List, ◌++◌, length, replicate, ap, sym, ◌∙◌, arith, append-nil}
 use Rattle.roam_reload.specs.Kept.{KeepsSources}
 use Rattle.roam_reload.proofs.AddressLemmas.{sources_stay}
-use Rattle.roam_exchange.specs.OneRealm.{one_realm_run}
+use Rattle.roam_realm.specs.OneRealm.{one_realm_run}
 use Rattle.roam_realm.specs.RealmConfig.{RealmConfig, link_count}
 use Rattle.roam_realm.specs.RealmState.{RealmState}
 use Rattle.roam_migrate.specs.Reload.{AsIfNothingChanged, Carries, HasPlaces, PlacesStay, TakesNothing, carried}

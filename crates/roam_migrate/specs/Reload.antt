@@ -23,7 +23,7 @@ use Rattle.roam_realm.specs.RealmConfig.{RealmConfig, link_count, link_place, re
 use Rattle.roam_realm.specs.RealmState.{RealmState}
 use Rattle.roam_realm.specs.Rests.{awake, rest_of}
 use Rattle.roam_realm.specs.Shapings.{shaping_from}
-use Rattle.roam_exchange.specs.OneRealm.{RealmEvent, one_realm_run}
+use Rattle.roam_realm.specs.OneRealm.{RealmEvent, one_realm_run}
 use Rattle.roam_realm.specs.declared.rest.Rest.{Rest}
 use Rattle.roam_realm.specs.declared.service.Service.{Service}
 use Rattle.roam_realm.specs.declared.service.Service.TheVariants as service

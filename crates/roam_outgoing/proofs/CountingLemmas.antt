@@ -2,10 +2,10 @@
 use Rattle.std.proofs.Common.{◌≡◌, ◌∙◌, ℕ, ◌+◌, ◌<◌, List, [], ◌∷◌, ◌++◌, Option, length, take, slice_index_or, sym, ap}
 use Rattle.std.proofs.lemmas.List.{flat_map_more, map-append, take_more}
 use Rattle.std.proofs.lemmas.List.Sums.{fold-append}
-use Rattle.roam_exchange.specs.Happenings.{PlainDue}
-use Rattle.roam_exchange.specs.HappeningsShown.{shown_due, shown_dues}
-use Rattle.roam_exchange.specs.declared.happening.DueHappening.{DueHappening}
-use Rattle.roam_exchange.specs.declared.happening.LeftConversation.{LeftConversation}
+use Rattle.roam_realm.specs.Happenings.{PlainDue}
+use Rattle.roam_realm.specs.HappeningsShown.{shown_due, shown_dues}
+use Rattle.roam_realm.specs.declared.happening.DueHappening.{DueHappening}
+use Rattle.roam_realm.specs.declared.happening.LeftConversation.{LeftConversation}
 use Rattle.roam_counters.specs.Increments.{due_increments, left_increments}
 use Rattle.roam_counters.specs.OwnCounts.{CountsView, raised_all, raised_by}
 use Rattle.roam_counters.specs.declared.increments.Increment.{Increment}

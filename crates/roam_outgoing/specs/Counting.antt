@@ -1,9 +1,9 @@
 -- The counts of what a thread does. Ours.
 use Rattle.std.specs.Prelude.{◌≡◌, ℕ, List, Option, Some, None, slice_get}
 use Rattle.std.specs.List.{flat_map}
-use Rattle.roam_exchange.specs.Happenings.{PlainDue}
+use Rattle.roam_realm.specs.Happenings.{PlainDue}
 use Rattle.roam_conf.specs.Config.{ConfigView, RealmView}
-use Rattle.roam_exchange.specs.declared.happening.LeftConversation.{LeftConversation}
+use Rattle.roam_realm.specs.declared.happening.LeftConversation.{LeftConversation}
 use Rattle.roam_counters.specs.Increments.{due_increments, left_increments}
 use Rattle.roam_counters.specs.OwnCounts.{CountsView, raised_all}
 use Rattle.roam_counters.specs.declared.increments.Increment.{Increment}

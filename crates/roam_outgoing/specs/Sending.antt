@@ -1,7 +1,7 @@
 -- The fates of the packets that a thread is given to send. Ours.
 use Rattle.std.specs.Prelude.{◌≡◌, ℕ, List, [], ◌∷◌, ◌++◌}
 use Rattle.std.specs.declared.alloc.Global.{Global}
-use Rattle.roam_exchange.specs.Turn.{shown_outs}
+use Rattle.roam_realm.specs.Turn.{shown_outs}
 use Rattle.roam_port.specs.Fates.{Becomes}
 use Rattle.roam_port.specs.Outbox.{IsTriedAgain, PutsSending, SendsAll, account_of}
 use Rattle.roam_port.specs.Port.{PortCall}

@@ -1,8 +1,8 @@
 //! The counts of what a thread does.
 
 ghost use Rattle.std.specs.Prelude.{◌≡◌};
-ghost use Rattle.roam_exchange.specs.Happenings.{ticked};
-ghost use Rattle.roam_exchange.specs.HappeningsShown.{shown_dues, shown_happening};
+ghost use Rattle.roam_realm.specs.Happenings.{ticked};
+ghost use Rattle.roam_realm.specs.HappeningsShown.{shown_dues, shown_happening};
 ghost use Rattle.roam_conf.specs.Shown.{shown};
 ghost use Rattle.roam_counters.specs.Arrivals as arrivals;
 ghost use Rattle.roam_counters.specs.Ends.{end_at};
@@ -18,7 +18,7 @@ use roam_counters::{
     failed_increments, job_increments, left_increments, local_increments, refused_here_increments,
     refused_increments,
 };
-use roam_exchange::{DueHappening, Happening, LeftConversation};
+use roam_realm::{DueHappening, Happening, LeftConversation};
 use roam_wire::Refusal;
 use std::alloc::Global;
 

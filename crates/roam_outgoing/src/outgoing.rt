@@ -9,8 +9,8 @@ use crate::counters::ThreadCounts;
 use crate::losses::SharedLosses;
 use mio::{Events, Poll};
 use roam_admission::Out;
-use roam_exchange::Outs;
 use roam_port::{Account, Outbox, Sent};
+use roam_realm::Outs;
 use roam_system::{PlaceSockets, Polls, Socket};
 use roam_wire::NoMemory;
 use std::alloc::Global;
@@ -75,7 +75,7 @@ impl<'s> Drop for Outgoing<'s> {
 
 impl<'s> Outgoing<'s> {
     ghost use Rattle.std.specs.Prelude.{◌≡◌, [], ◌∷◌, min, true, false, option_to_list, IfOk};
-    ghost use Rattle.roam_exchange.specs.Turn.{shown_outs};
+    ghost use Rattle.roam_realm.specs.Turn.{shown_outs};
     ghost use Rattle.roam_outgoing.specs.Sending.{PutsEach, outbox_in};
     ghost use Rattle.roam_port.specs.Outbox.{account_of, told_of};
     ghost use Rattle.roam_admission.specs.Shown.{shown_out};

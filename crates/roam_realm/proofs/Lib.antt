@@ -18,3 +18,12 @@ pub mod SearchLemmas
 pub mod LaneStateLemmas
 pub mod WorkedFacts
 pub mod LazyLemmas
+pub mod ActionListLemmas
+pub mod BecameLemmas
+pub mod DueActionLemmas
+pub mod MemoryLemmas
+pub mod NakLemmas
+pub mod OutcomeLemmas
+pub mod RestLemmas
+pub mod RoomLemmas
+pub mod SendingLemmas

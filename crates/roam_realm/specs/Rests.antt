@@ -44,7 +44,7 @@ one_more count = if nat_lt count 256 then count + 1 else count
 -- Rules out: one rest for all realms; a rest for each `out`; a rest counted from the request; a server that is left
 -- since it kept silent about one user or a burst of requests while it answered others; a rest that goes on after a
 -- reply; a server whose replies lack seals taken for a silent one
--- Stands in: `roam_realm` `Rests.antt`: `once_silent`, `after_silence`, `once_heard`, `after_sign`; `roam_exchange`
+-- Stands in: `roam_realm` `Rests.antt`: `once_silent`, `after_silence`, `once_heard`, `after_sign`; `roam_realm`
 -- `OnReply.antt`: `shows_life`; `roam_rules` `Silence.antt`: `KeptSilent`, `ChoiceIsNeverWorse`; `Book::tick`,
 -- `Book::reply`, the law `rests`
 --

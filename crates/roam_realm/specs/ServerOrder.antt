@@ -61,7 +61,7 @@ start_of c attributes count = if c.realm.by_user then user_start attributes coun
 -- Source: ours; RFC 2865 section 5.31, RFC 1321
 -- Rules out: an `acct` that counts among the servers of Access-Requests; a turned list that lacks a server or has one
 -- twice; a user whose server depends on another's requests
--- Stands in: `roam_realm` `ServerOrder.antt`: `server_order`, `later_targets`; `roam_exchange` `OnRequest.antt`:
+-- Stands in: `roam_realm` `ServerOrder.antt`: `server_order`, `later_targets`; `roam_realm` `OnRequest.antt`:
 -- `targets`; `RealmSettings::servers_for`, `servers_behind`; `Book::request`, `Book::tick`
 --
 -- the places of the servers of a service, in the order of their use for a packet of these attributes

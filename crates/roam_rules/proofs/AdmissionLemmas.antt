@@ -20,11 +20,11 @@ use Rattle.roam_realm.specs.declared.rest.Rest.{Rest}
 use Rattle.roam_rules.specs.Private.NewEntry.{MakesWay, target_at}
 use Rattle.roam_realm.specs.RealmConfig.{RealmConfig, IsLink}
 use Rattle.roam_realm.specs.RealmState.{RealmState, Target, next_toward}
-use Rattle.roam_exchange.specs.OnRequest.{admit, position_after}
-use Rattle.roam_exchange.specs.Turn.{Turn}
+use Rattle.roam_realm.specs.OnRequest.{admit, position_after}
+use Rattle.roam_realm.specs.Turn.{Turn}
 use Rattle.roam_realm.specs.Sound.{AreOwnLanes, IsEntry, IsRequest, IsSound, IsWaiting, LanesTell, StandsWell, cursors_of, standing_place, marks_of}
 use Rattle.roam_rules.specs.Replacing.{CountsAsReplaced, replaced_ticket}
-use Rattle.roam_exchange.proofs.SendingLemmas.{position-below}
+use Rattle.roam_realm.proofs.SendingLemmas.{position-below}
 use Rattle.roam_realm.proofs.SoundLemmas.{kept-later, kept-put, kept-ticket, kept-without}
 use Rattle.roam_realm.proofs.LaneLemmas.{next-tells, tells-replaced}
 

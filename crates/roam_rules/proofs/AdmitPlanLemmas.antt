@@ -9,18 +9,18 @@ use Rattle.roam_admission.specs.Admission.{PlainOut}
 use Rattle.roam_pending.specs.PlainEntry.{PlainEntry, PlainRequest}
 use Rattle.roam_pending.specs.EntryList.{find_client, first_done}
 use Rattle.roam_rules.specs.Private.NewEntry.{Chooses, HasNext, IsByTarget, IsChosen, IsAdmitPlan, admits, admitted_by, cleared, replaced_entry, new_happening, once_replaced, straight_after, straight_to, target_at, target_link}
-use Rattle.roam_exchange.specs.OnRequest.{at_target, make_way, new_request, targets}
+use Rattle.roam_realm.specs.OnRequest.{at_target, make_way, new_request, targets}
 use Rattle.roam_realm.specs.RealmConfig.{RealmConfig, IsLink}
 use Rattle.roam_realm.specs.Conversing.{new_target, rests_chosen}
-use Rattle.roam_exchange.specs.Happenings.{PlainHappening, by_turn, forwarded, refused, replaced_by, to_target}
-use Rattle.roam_exchange.specs.HappeningsShown.{shown_happening}
-use Rattle.roam_exchange.specs.Turned.{IsTurned}
+use Rattle.roam_realm.specs.Happenings.{PlainHappening, by_turn, forwarded, refused, replaced_by, to_target}
+use Rattle.roam_realm.specs.HappeningsShown.{shown_happening}
+use Rattle.roam_realm.specs.Turned.{IsTurned}
 use Rattle.roam_realm.specs.RealmState.{RealmState, Target, with_rests}
 use Rattle.roam_realm.specs.declared.rest.Rest.{Rest}
 use Rattle.roam_rules.specs.Replacing.{CountsAsReplaced}
 use Rattle.roam_realm.specs.Sound.{IsRequest}
-use Rattle.roam_exchange.specs.Turn.{Turn, refuses, sends, shown_outs}
-use Rattle.roam_exchange.specs.declared.answer.Turned.{Turned}
+use Rattle.roam_realm.specs.Turn.{Turn, refuses, sends, shown_outs}
+use Rattle.roam_realm.specs.declared.answer.Turned.{Turned}
 use Rattle.roam_rules.specs.declared.rules.replaced.Replaced.{Replaced}
 use Rattle.roam_rules.specs.declared.rules.admit_plan.AdmitPlan.{AdmitPlan}
 use Rattle.roam_rules.proofs.RequestLemmas.{in-else}

@@ -7,7 +7,7 @@ use Rattle.roam_wire.specs.Reading.{packet_of}
 use Rattle.roam_realm.specs.RealmConfig.{RealmConfig, service_of}
 use Rattle.roam_realm.specs.ServerOrder.{digest_number, links_to, order_by, places_of, turned, user_octets}
 use Rattle.roam_realm.specs.declared.service.Service.{Service}
-use Rattle.roam_exchange.specs.OnRequest.{is_reverse}
+use Rattle.roam_realm.specs.OnRequest.{is_reverse}
 use Rattle.roam_rules.specs.Balance.{FirstTargetIsTaken, OneUserHasOneList}
 
 order-same : (c : RealmConfig) (asked : Service) (a b : List Attribute) → user_octets a ≡ user_octets b

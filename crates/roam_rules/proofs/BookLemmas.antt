@@ -11,10 +11,10 @@ use Rattle.roam_pending.specs.Realms.{entries_in, keeps_in}
 use Rattle.roam_pending.proofs.TestLemmas.{same}
 use Rattle.roam_realm.specs.RealmConfig.{RealmConfig, link_count, realm_config}
 use Rattle.roam_realm.specs.RealmState.{RealmState}
-use Rattle.roam_exchange.specs.Turn.{Turn, Gives, packets_of}
+use Rattle.roam_realm.specs.Turn.{Turn, Gives, packets_of}
 use Rattle.roam_realm.specs.Sound.{AreOwnLanes, IsSound, LanesTell, state_of, marks_of}
 use Rattle.roam_rules.specs.BookView.{BookView, IsBook, settings_of}
-use Rattle.roam_exchange.specs.declared.answer.Answer.{Answer}
+use Rattle.roam_realm.specs.declared.answer.Answer.{Answer}
 use Rattle.roam_realm.specs.declared.realm_numbers.RealmNumbers.{RealmNumbers}
 use Rattle.roam_realm.specs.declared.start.Start.{Start}
 

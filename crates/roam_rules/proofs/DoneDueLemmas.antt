@@ -8,9 +8,9 @@ use Rattle.roam_pending.specs.EntryList.{find_ticket, without}
 use Rattle.roam_pending.specs.DueOrder.{due_list}
 use Rattle.roam_realm.specs.RealmConfig.{RealmConfig}
 use Rattle.roam_realm.specs.RealmState.{RealmState, with_entries}
-use Rattle.roam_exchange.specs.Rooms.{done_or_gone, is_done_at, only_done_due}
-use Rattle.roam_exchange.specs.Happenings.{due_became, due_happenings, due_of, due_with}
-use Rattle.roam_exchange.specs.declared.happening.Became.{Became}
+use Rattle.roam_realm.specs.Rooms.{done_or_gone, is_done_at, only_done_due}
+use Rattle.roam_realm.specs.Happenings.{due_became, due_happenings, due_of, due_with}
+use Rattle.roam_realm.specs.declared.happening.Became.{Became}
 use Rattle.roam_rules.proofs.LettingGoLemmas.{all-without, both, goes-one}
 
 became-none : (c : RealmConfig) (now : ℕ) (s : RealmState) (e : PlainEntry) (p : PlainStanding)

@@ -15,8 +15,8 @@ use Rattle.roam_realm.specs.RealmConfig.{RealmConfig}
 use Rattle.roam_realm.specs.ServerOrder.{later_targets}
 use Rattle.roam_realm.specs.RealmState.{RealmState, Target, chosen_target}
 use Rattle.roam_realm.specs.Rests.{after_choice, after_silence, signs_of}
-use Rattle.roam_exchange.specs.OnRequest.{forwarded_entry, is_reverse, nak_octets}
-use Rattle.roam_exchange.specs.OnTick.{Progress, fail_over, given_up, once_refused, without_entry, due_standing, due_entry, due_one, due_each}
+use Rattle.roam_realm.specs.OnRequest.{forwarded_entry, is_reverse, nak_octets}
+use Rattle.roam_realm.specs.OnTick.{Progress, fail_over, given_up, once_refused, without_entry, due_standing, due_entry, due_one, due_each}
 use Rattle.roam_rules.specs.LeastFirst.{least_first}
 
 -- the list stays in order, and what is due is what was due without a ticket

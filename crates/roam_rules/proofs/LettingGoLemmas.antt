@@ -15,13 +15,13 @@ use Rattle.roam_pending.proofs.DueListLemmas.{due-next, due-taken}
 use Rattle.roam_pending.proofs.OrderLemmas.{without-absent}
 use Rattle.roam_realm.specs.RealmConfig.{RealmConfig}
 use Rattle.roam_realm.specs.RealmState.{RealmState, with_entries}
-use Rattle.roam_exchange.specs.Turn.{sends}
-use Rattle.roam_exchange.specs.OnTick.{silent, without_entry, due_standing, due_entry, due_one, due_each, on_tick}
-use Rattle.roam_exchange.specs.Rooms.{done_or_gone, is_done_at, only_done_due}
+use Rattle.roam_realm.specs.Turn.{sends}
+use Rattle.roam_realm.specs.OnTick.{silent, without_entry, due_standing, due_entry, due_one, due_each, on_tick}
+use Rattle.roam_realm.specs.Rooms.{done_or_gone, is_done_at, only_done_due}
 use Rattle.roam_realm.specs.Sound.{IsSound}
 use Rattle.roam_realm.specs.declared.realm_numbers.RealmNumbers.{RealmNumbers}
 use Rattle.roam_rules.proofs.AdmissionLemmas.{without-done}
-use Rattle.roam_exchange.proofs.RoomLemmas.{first_rest, no_first, last_or-more}
+use Rattle.roam_realm.proofs.RoomLemmas.{first_rest, no_first, last_or-more}
 
 -- Looking at what is due
 

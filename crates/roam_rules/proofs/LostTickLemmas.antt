@@ -9,10 +9,10 @@ use Rattle.roam_pending.specs.DueOrder.{due_list}
 use Rattle.roam_pending.specs.EntryList.{without}
 use Rattle.roam_realm.specs.RealmConfig.{RealmConfig}
 use Rattle.roam_realm.specs.RealmState.{RealmState, with_entries}
-use Rattle.roam_exchange.specs.Rooms.{is_done_at}
-use Rattle.roam_exchange.specs.Turn.{Turn, in_time, latest_moment, packets_of, refuses, sends, state_after}
-use Rattle.roam_exchange.specs.OnTick.{Progress, as_turn, due_each, on_tick, silent}
-use Rattle.roam_exchange.specs.OneRealm.{RealmEvent, one_realm_run}
+use Rattle.roam_realm.specs.Rooms.{is_done_at}
+use Rattle.roam_realm.specs.Turn.{Turn, in_time, latest_moment, packets_of, refuses, sends, state_after}
+use Rattle.roam_realm.specs.OnTick.{Progress, as_turn, due_each, on_tick, silent}
+use Rattle.roam_realm.specs.OneRealm.{RealmEvent, one_realm_run}
 use Rattle.roam_rules.specs.LostTicks.{NothingIsLost, OnlyDoneGo, without_each}
 use Rattle.roam_rules.proofs.LettingGoLemmas.{all-without, both, goes-one}
 

@@ -8,15 +8,15 @@ use Rattle.roam_pending.specs.Realms.{with_standing}
 use Rattle.roam_pending.proofs.OrderLemmas.{list-changed}
 use Rattle.roam_realm.specs.RealmConfig.{RealmConfig, IsLink}
 use Rattle.roam_realm.specs.RealmState.{RealmState}
-use Rattle.roam_exchange.specs.Turn.{Turn, Answers, hears}
-use Rattle.roam_exchange.specs.OnReply.{once_heard_from}
+use Rattle.roam_realm.specs.Turn.{Turn, Answers, hears}
+use Rattle.roam_realm.specs.OnReply.{once_heard_from}
 use Rattle.roam_realm.specs.Sound.{AreOwnLanes, IsEntry, IsSound, LanesTell, StandsWell, marks_of}
-use Rattle.roam_exchange.specs.Happenings.{PlainHappening}
-use Rattle.roam_exchange.specs.HappeningsShown.{shown_happening}
-use Rattle.roam_exchange.specs.Outcomes.{HasOutcome}
+use Rattle.roam_realm.specs.Happenings.{PlainHappening}
+use Rattle.roam_realm.specs.HappeningsShown.{shown_happening}
+use Rattle.roam_realm.specs.Outcomes.{HasOutcome}
 use Rattle.roam_rules.specs.Private.ReplyPlans.{IsHeard, IsReplyPlan, once_heard_by}
 use Rattle.roam_rules.specs.declared.rules.replies.Settled.{Settled}
-use Rattle.roam_exchange.specs.declared.reply_outcome.ReplyOutcome.{ReplyOutcome}
+use Rattle.roam_realm.specs.declared.reply_outcome.ReplyOutcome.{ReplyOutcome}
 use Rattle.roam_realm.specs.declared.realm_numbers.RealmNumbers.{RealmNumbers}
 use Rattle.roam_realm.proofs.LaneLemmas.{tells-done}
 use Rattle.roam_realm.proofs.SoundLemmas.{kept-put, kept-ticket, same_link-equal}

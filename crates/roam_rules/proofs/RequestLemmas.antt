@@ -15,14 +15,14 @@ use Rattle.roam_pending.proofs.ChangeLemmas.{find-passes, found-is}
 use Rattle.roam_pending.proofs.ClientLemmas.{client-without, key-equal, without_client-found}
 use Rattle.roam_rules.specs.Private.NewEntry.{HasNext, bound_way, freed_link, target_at, way_link}
 use Rattle.roam_realm.specs.Conversing.{bound_target, new_target, rests_by, rests_chosen}
-use Rattle.roam_exchange.specs.Shares.{share_taken}
-use Rattle.roam_exchange.specs.OnRequest.{at_target, coa_links, held_reply, is_reverse, new_request, of_key, targets}
+use Rattle.roam_realm.specs.Shares.{share_taken}
+use Rattle.roam_realm.specs.OnRequest.{at_target, coa_links, held_reply, is_reverse, new_request, of_key, targets}
 use Rattle.roam_realm.specs.RealmConfig.{RealmConfig, IsLink, service_of}
 use Rattle.roam_realm.specs.ServerOrder.{server_order}
 use Rattle.roam_realm.specs.RealmState.{RealmState, Target, next_toward, with_rests}
 use Rattle.roam_rules.specs.Replacing.{CountsAsReplaced, replaced_ticket}
 use Rattle.roam_realm.specs.Sound.{IsSound, cursors_of, standing_place, state_of}
-use Rattle.roam_exchange.specs.Turn.{Turn, refuses, sends}
+use Rattle.roam_realm.specs.Turn.{Turn, refuses, sends}
 use Rattle.roam_rules.specs.declared.rules.replaced.Replaced.{Replaced}
 use Rattle.roam_realm.specs.declared.realm_numbers.RealmNumbers.{RealmNumbers}
 use Rattle.roam_rules.proofs.ConversingLemmas.{bound-is, new-next, way-is}

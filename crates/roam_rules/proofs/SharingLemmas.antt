@@ -16,7 +16,7 @@ use Rattle.roam_realm.specs.declared.service.Service.{Service}
 use Rattle.roam_realm.specs.declared.service.Service.TheVariants as service
 use Rattle.roam_rules.specs.Private.Sharing.{held_as, held_below, is_kept_as, sum_below}
 use Rattle.roam_realm.specs.RealmConfig.{RealmConfig, IsLink, server_link}
-use Rattle.roam_exchange.specs.Shares.{waits_for}
+use Rattle.roam_realm.specs.Shares.{waits_for}
 use Rattle.roam_realm.specs.Sound.{IsEntry, IsSound, StandsWell, lane_of}
 use Rattle.roam_rules.proofs.SumLemmas.{all-both, all-none, all-same, in_all, one-in_all, one_if}
 use Rattle.roam_realm.proofs.WaitingLemmas.{parks, waits_as}

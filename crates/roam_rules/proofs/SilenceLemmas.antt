@@ -18,16 +18,16 @@ use Rattle.roam_pending.specs.EntryList.{find_link, find_ticket}
 use Rattle.roam_realm.specs.RealmConfig.{RealmConfig, end_place, link_secret, seal_required}
 use Rattle.roam_realm.specs.RealmState.{RealmState, Target, first_target, next_toward, ready_links, this_or}
 use Rattle.roam_realm.specs.Rests.{after_choice, after_sign, after_silence, awake, once_chosen, once_heard, once_silent, one_more, rest_of, signs_of, stands_back, with_rest}
-use Rattle.roam_exchange.specs.Turn.{Turn, latest_moment, hears, refuses, state_after}
-use Rattle.roam_exchange.specs.OnReply.{reply_turn, once_heard_from, shows_life, on_reply, passing_to, reply_fault, returning, to_entry, to_standing}
-use Rattle.roam_exchange.specs.OnTick.{Progress, as_turn, due_each, due_entry, due_one, due_standing, given_up_at}
-use Rattle.roam_exchange.specs.OneRealm.{RealmEvent, one_realm_run, reply_came, request_came, tick_came}
-use Rattle.roam_exchange.specs.RestLaws.{IsUp}
+use Rattle.roam_realm.specs.Turn.{Turn, latest_moment, hears, refuses, state_after}
+use Rattle.roam_realm.specs.OnReply.{reply_turn, once_heard_from, shows_life, on_reply, passing_to, reply_fault, returning, to_entry, to_standing}
+use Rattle.roam_realm.specs.OnTick.{Progress, as_turn, due_each, due_entry, due_one, due_standing, given_up_at}
+use Rattle.roam_realm.specs.OneRealm.{RealmEvent, one_realm_run, reply_came, request_came, tick_came}
+use Rattle.roam_realm.specs.RestLaws.{IsUp}
 use Rattle.roam_rules.specs.Silence.{ChoiceIsNeverWorse, EndsHaveOwnPlaces, RestsOnlyWhenSilent, ends_at, ends_there, given_up_by, given_up_in, given_up_over, shares_end, is_sign, once_came, signs_in, signs_over}
 use Rattle.roam_realm.specs.declared.rest.Rest.{Rest}
 use Rattle.roam_realm.proofs.LinkLaneLemmas.{ends-apart}
 use Rattle.roam_realm.proofs.SoundLemmas.{same_link-equal}
-use Rattle.roam_exchange.proofs.RestLemmas.{either, fail_over-keeps, reply-keeps, request-keeps}
+use Rattle.roam_realm.proofs.RestLemmas.{either, fail_over-keeps, reply-keeps, request-keeps}
 
 pub ends-have_own_places : EndsHaveOwnPlaces
 ends-have_own_places c l other x y is =

@@ -13,27 +13,27 @@ use Rattle.roam_pending.specs.Realms.{RealmBecomes}
 use Rattle.roam_pending.proofs.ChangeLemmas.{found-ticket}
 use Rattle.roam_conf.specs.declared.exchange_lines.ExchangeLines.{ExchangeLines}
 use Rattle.std.specs.declared.vec.Vec.{Vec}
-use Rattle.roam_exchange.specs.Happenings.{PlainDue, due_happenings, due_of, keeps_given_up, refused, tick_happening, ticked}
-use Rattle.roam_exchange.specs.HappeningsShown.{dues_in, shown_due, shown_dues, shown_happening}
-use Rattle.roam_exchange.specs.declared.happening.Happening.{Happening}
-use Rattle.roam_exchange.specs.declared.happening.Happening.TheVariants as happening
+use Rattle.roam_realm.specs.Happenings.{PlainDue, due_happenings, due_of, keeps_given_up, refused, tick_happening, ticked}
+use Rattle.roam_realm.specs.HappeningsShown.{dues_in, shown_due, shown_dues, shown_happening}
+use Rattle.roam_realm.specs.declared.happening.Happening.{Happening}
+use Rattle.roam_realm.specs.declared.happening.Happening.TheVariants as happening
 use Rattle.roam_wire.specs.declared.refusal.Refusal.{Refusal}
-use Rattle.roam_exchange.specs.Turned.{IsTurned}
-use Rattle.roam_exchange.specs.Dues.{HasRequestRoom}
-use Rattle.roam_exchange.specs.declared.happening.DueHappening.{DueHappening}
-use Rattle.roam_exchange.specs.declared.answer.Turned.{Turned}
-use Rattle.roam_exchange.specs.declared.answer_builder.AnswerBuilder.{AnswerBuilder}
-use Rattle.roam_exchange.specs.declared.tick_memory.TickSlot.{TickSlot}
+use Rattle.roam_realm.specs.Turned.{IsTurned}
+use Rattle.roam_realm.specs.Dues.{HasRequestRoom}
+use Rattle.roam_realm.specs.declared.happening.DueHappening.{DueHappening}
+use Rattle.roam_realm.specs.declared.answer.Turned.{Turned}
+use Rattle.roam_realm.specs.declared.answer_builder.AnswerBuilder.{AnswerBuilder}
+use Rattle.roam_realm.specs.declared.tick_memory.TickSlot.{TickSlot}
 use Rattle.roam_realm.specs.RealmConfig.{RealmConfig}
 use Rattle.roam_realm.specs.RealmState.{RealmState}
-use Rattle.roam_exchange.specs.Turn.{shown_outs}
-use Rattle.roam_exchange.specs.OnTick.{as_turn, on_tick, due_standing, due_entry, due_one, due_each}
-use Rattle.roam_exchange.specs.Memory.{AreDues, HasBuffers, HasPlace, IsOuts}
-use Rattle.roam_exchange.proofs.MemoryLemmas.{gathered-turned, has-place}
-use Rattle.roam_exchange.specs.Rooms.{dues_of, size_of, EachHasBuffers}
-use Rattle.roam_exchange.specs.declared.due_action.DueAction.{DueAction}
-use Rattle.roam_exchange.specs.DueActions.{action_entries}
-use Rattle.roam_exchange.proofs.RoomLemmas.{buffers-kept}
+use Rattle.roam_realm.specs.Turn.{shown_outs}
+use Rattle.roam_realm.specs.OnTick.{as_turn, on_tick, due_standing, due_entry, due_one, due_each}
+use Rattle.roam_realm.specs.Memory.{AreDues, HasBuffers, HasPlace, IsOuts}
+use Rattle.roam_realm.proofs.MemoryLemmas.{gathered-turned, has-place}
+use Rattle.roam_realm.specs.Rooms.{dues_of, size_of, EachHasBuffers}
+use Rattle.roam_realm.specs.declared.due_action.DueAction.{DueAction}
+use Rattle.roam_realm.specs.DueActions.{action_entries}
+use Rattle.roam_realm.proofs.RoomLemmas.{buffers-kept}
 
 -- of how many requests it is said what became of them
 pub none-due : {A : Type 0} (h : Happening A) (why : Refusal) → shown_happening h ≡ refused why → dues_in h ≡ 0

@@ -4,16 +4,16 @@ use Rattle.std.specs.Prelude.{IfErr, IfOk, IsErr, IsOk, Result, Ok, Err}
 use Rattle.roam_wire.specs.declared.refusal.NoMemory.{NoMemory}
 use Rattle.roam_conf.specs.declared.place.Link.{Link}
 use Rattle.roam_pending.specs.declared.entries.Entries.{Ghosts}
-use Rattle.roam_exchange.specs.declared.answer.Turned.{Turned}
+use Rattle.roam_realm.specs.declared.answer.Turned.{Turned}
 use Rattle.roam_rules.specs.declared.realm_broker.RealmBroker.{RealmBroker}
 use Rattle.roam_rules.specs.declared.rules.replies.Settled.{Settled}
-use Rattle.roam_exchange.specs.Happenings.{PlainHappening}
+use Rattle.roam_realm.specs.Happenings.{PlainHappening}
 use Rattle.roam_realm.specs.RealmState.{RealmState}
 use Rattle.roam_rules.specs.RealmTurn.{Keeps, state, TurnsTelling}
-use Rattle.roam_exchange.specs.Turned.{GivesTurned}
+use Rattle.roam_realm.specs.Turned.{GivesTurned}
 use Rattle.roam_rules.specs.Private.ReplyPlans.{IsReplyPlan, once_settled}
-use Rattle.roam_exchange.specs.HappeningsShown.{shown_happening}
-use Rattle.roam_exchange.specs.Turn.{Answers, Turn, packets_of}
+use Rattle.roam_realm.specs.HappeningsShown.{shown_happening}
+use Rattle.roam_realm.specs.Turn.{Answers, Turn, packets_of}
 
 -- what met want of memory didn't succeed
 pub not-ok : {T E : Type 0} (r : Result T E) (e : E) → r ≡ Err e → IsOk r → ⊥

@@ -8,7 +8,7 @@ use Rattle.roam_realm.specs.RealmConfig.{RealmConfig}
 use Rattle.roam_realm.specs.RealmState.{RealmState, next_toward}
 use Rattle.roam_realm.specs.Rests.{stands_back}
 use Rattle.roam_realm.specs.ServerOrder.{user_octets}
-use Rattle.roam_exchange.specs.OnRequest.{is_reverse, targets}
+use Rattle.roam_realm.specs.OnRequest.{is_reverse, targets}
 
 -- two requests of one code, and of one user
 pub record AreOfOneUser (p q : PlainRequest) : Type 0 where

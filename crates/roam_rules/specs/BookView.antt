@@ -13,7 +13,7 @@ use Rattle.roam_pending.specs.declared.key.Requester.TheVariants as requester
 use Rattle.roam_pending.specs.EntryList.{Held, IsEntryList}
 use Rattle.roam_realm.specs.RealmConfig.{RealmConfig, realm_config}
 use Rattle.roam_realm.specs.RealmState.{RealmState}
-use Rattle.roam_exchange.specs.OneRealm.{request_of}
+use Rattle.roam_realm.specs.OneRealm.{request_of}
 use Rattle.roam_realm.specs.Sound.{IsRequest, IsSound}
 use Rattle.roam_realm.specs.declared.realm_numbers.RealmNumbers.{RealmNumbers}
 

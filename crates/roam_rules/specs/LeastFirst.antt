@@ -5,7 +5,7 @@ use Rattle.roam_pending.specs.DueOrder.{due_list, due_after}
 use Rattle.roam_pending.specs.EntryList.{IsInOrder}
 use Rattle.roam_realm.specs.RealmConfig.{RealmConfig}
 use Rattle.roam_realm.specs.RealmState.{RealmState}
-use Rattle.roam_exchange.specs.OnTick.{Progress, silent, due_one, due_each}
+use Rattle.roam_realm.specs.OnTick.{Progress, silent, due_one, due_each}
 
 -- the least due entry is taken, and then the others, if one is due
 abbrev pub least_and : RealmConfig → ℕ → RealmState → (RealmState → Progress) → Option Due

@@ -7,10 +7,10 @@ use Rattle.roam_pending.specs.PlainEntry.{PlainEntry}
 use Rattle.roam_pending.specs.EntryList.{without}
 use Rattle.roam_realm.specs.RealmConfig.{RealmConfig}
 use Rattle.roam_realm.specs.RealmState.{RealmState, with_entries}
-use Rattle.roam_exchange.specs.Rooms.{only_done_due}
-use Rattle.roam_exchange.specs.OnTick.{on_tick}
-use Rattle.roam_exchange.specs.OneRealm.{RealmEvent, tick_came, one_realm_run}
-use Rattle.roam_exchange.specs.Turn.{in_time, sends}
+use Rattle.roam_realm.specs.Rooms.{only_done_due}
+use Rattle.roam_realm.specs.OnTick.{on_tick}
+use Rattle.roam_realm.specs.OneRealm.{RealmEvent, tick_came, one_realm_run}
+use Rattle.roam_realm.specs.Turn.{in_time, sends}
 
 -- no entry is due at a moment
 abbrev pub NoneIsDue : ℕ → RealmState → Type 0

@@ -8,10 +8,10 @@ use Rattle.roam_rules.specs.declared.realm_broker.RealmBroker.{RealmBroker}
 use Rattle.roam_realm.specs.RealmState.{RealmState}
 use Rattle.roam_realm.specs.Sound.{IsSound, OthersStay, state_of}
 use Rattle.roam_wire.specs.declared.refusal.NoMemory.{NoMemory}
-use Rattle.roam_exchange.specs.Happenings.{PlainHappening}
-use Rattle.roam_exchange.specs.Turn.{Turn, packets_of}
-use Rattle.roam_exchange.specs.Turned.{GivesTurned}
-use Rattle.roam_exchange.specs.declared.answer.Turned.{Turned}
+use Rattle.roam_realm.specs.Happenings.{PlainHappening}
+use Rattle.roam_realm.specs.Turn.{Turn, packets_of}
+use Rattle.roam_realm.specs.Turned.{GivesTurned}
+use Rattle.roam_realm.specs.declared.answer.Turned.{Turned}
 
 -- its entries, its state, and for how many more entries there is room without memory
 abbrev pub entries : {A E : Type 0} → Ghosts E A → RealmBroker A E → List PlainEntry

@@ -10,11 +10,11 @@ use Rattle.roam_pending.specs.EntryList.{find_ticket}
 use Rattle.roam_realm.specs.RealmConfig.{RealmConfig, IsLink, end_place}
 use Rattle.roam_realm.specs.Conversing.{same_end}
 use Rattle.roam_realm.specs.RealmState.{RealmState, chosen_target, first_target}
-use Rattle.roam_exchange.specs.RestLaws.{IsUp}
+use Rattle.roam_realm.specs.RestLaws.{IsUp}
 use Rattle.roam_realm.specs.Rests.{rest_of, signs_of, stands_back}
-use Rattle.roam_exchange.specs.OnTick.{due_one}
-use Rattle.roam_exchange.specs.OneRealm.{RealmEvent, reply_came, tick_came, on_event, one_realm_run}
-use Rattle.roam_exchange.specs.Turn.{Turn, latest_moment, refuses, hears, sends, state_after}
+use Rattle.roam_realm.specs.OnTick.{due_one}
+use Rattle.roam_realm.specs.OneRealm.{RealmEvent, reply_came, tick_came, on_event, one_realm_run}
+use Rattle.roam_realm.specs.Turn.{Turn, latest_moment, refuses, hears, sends, state_after}
 use Rattle.roam_realm.specs.declared.rest.Rest.{Rest}
 
 -- a link leads to the end of this one, by whichever `out`: its end has the same place among the realm's ends, of which

@@ -8,12 +8,12 @@ ghost use Rattle.roam_admission.specs.Shown.{shown_job};
 ghost use Rattle.roam_pending.specs.DueOrder.{due_list};
 ghost use Rattle.roam_realm.specs.RealmConfig.{realm_config};
 ghost use Rattle.roam_realm.specs.RealmState.{opening};
-ghost use Rattle.roam_exchange.specs.Turn.{Answers, Gives, packets_of, sends};
-ghost use Rattle.roam_exchange.specs.OnTick.{on_tick};
-ghost use Rattle.roam_exchange.specs.OneRealm.{event_of, on_event, request_came};
+ghost use Rattle.roam_realm.specs.Turn.{Answers, Gives, packets_of, sends};
+ghost use Rattle.roam_realm.specs.OnTick.{on_tick};
+ghost use Rattle.roam_realm.specs.OneRealm.{event_of, on_event, request_came};
 ghost use Rattle.roam_realm.specs.Sound.{IsRequest};
-ghost use Rattle.roam_exchange.specs.Shown.{shown_request};
-ghost use Rattle.roam_exchange.specs.Rooms.{IsRoomFor, only_done_due};
+ghost use Rattle.roam_realm.specs.Shown.{shown_request};
+ghost use Rattle.roam_realm.specs.Rooms.{IsRoomFor, only_done_due};
 ghost use Rattle.roam_rules.specs.BookView.{IsTakenFrom, is_link, settings_of};
 
 use crate::realm_broker::RealmBroker;
@@ -21,9 +21,11 @@ use crate::rules::evict_done::only_done_due;
 use crate::rules::requests::LATEST;
 use roam_admission::{Job, Side};
 use roam_conf::{Config, ExchangeLines, Link};
-use roam_exchange::{Answer, RequestRef, Room, answer_of, nothing, refused, room_for};
 use roam_pending::{Key, Pending, Requester};
-use roam_realm::{RealmNumbers, RealmSettings, Start};
+use roam_realm::{
+    Answer, RealmNumbers, RealmSettings, RequestRef, Room, Start, answer_of, nothing, refused,
+    room_for,
+};
 use roam_wire::{NoMemory, Refusal, View};
 use std::alloc::Allocator;
 use std::marker::Model;

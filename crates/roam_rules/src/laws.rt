@@ -6,7 +6,7 @@ ghost use Rattle.roam_rules.specs.Balance.{FirstTargetIsTaken, OneUserHasOneList
 ghost use Rattle.roam_rules.specs.BookView.{EventIsTaken};
 ghost use Rattle.roam_rules.specs.LeastFirst.{LeastDueFirst, NoneIsDueAfter};
 ghost use Rattle.roam_rules.specs.LostTicks.{NothingIsLost, OnlyDoneGo};
-ghost use Rattle.roam_exchange.specs.RestLaws.{AccessServersNeverStandBack, UpTheFirstIsChosen, WithoutRestAllStayUp};
+ghost use Rattle.roam_realm.specs.RestLaws.{AccessServersNeverStandBack, UpTheFirstIsChosen, WithoutRestAllStayUp};
 ghost use Rattle.roam_realm.specs.Saving.{RestoredIsSaved};
 ghost use Rattle.roam_rules.specs.Silence.{ChoiceIsNeverWorse, EndsHaveOwnPlaces, RestsOnlyWhenSilent};
 

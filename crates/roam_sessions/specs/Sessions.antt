@@ -178,7 +178,7 @@ change_by_status peer nas id (Some status) =
 -- takes a place from one that has no more sessions than itself
 -- Stands in: `roam_sessions` `Sessions.antt`: `change_by_request`, `applied`, `IsLedger`; `Sessions`, the laws
 -- `opened_sessions`, `closed_sessions`, `sessions_of_a_peer`, `ledgers_stay_ledgers`, `peers_have_shares`.
--- `roam_exchange` `OnReply.antt`: `counted_peer`, `counted`; `Book::reply`
+-- `roam_realm` `OnReply.antt`: `counted_peer`, `counted`; `Book::reply`
 --
 -- what an Accounting-Request of a peer does, where names of access servers count or not: its first
 -- Acct-Status-Type, its first Acct-Session-Id and those names say it, and no other (ours)

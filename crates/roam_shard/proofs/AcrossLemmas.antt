@@ -10,15 +10,15 @@ use Rattle.roam_wire.specs.declared.refusal.NoMemory.{NoMemory}
 use Rattle.roam_wire.specs.declared.refusal.Refusal.TheVariants as refusal
 use Rattle.roam_conf.specs.Config.{ConfigView}
 use Rattle.roam_admission.specs.Admission.{PlainJob, admitted}
-use Rattle.roam_exchange.specs.OneRealm.{event_of, on_event}
-use Rattle.roam_exchange.specs.OnTick.{on_tick}
+use Rattle.roam_realm.specs.OneRealm.{event_of, on_event}
+use Rattle.roam_realm.specs.OnTick.{on_tick}
 use Rattle.roam_realm.specs.RealmConfig.{realm_config}
 use Rattle.roam_realm.specs.RealmState.{RealmState}
-use Rattle.roam_exchange.specs.Rooms.{only_done_due}
-use Rattle.roam_exchange.specs.Turn.{Turn, sends, packets_of, refusal_of, state_after}
-use Rattle.roam_exchange.specs.Happenings.{PlainHappening}
-use Rattle.roam_exchange.specs.declared.answer.Answer.{Answer}
-use Rattle.roam_exchange.specs.declared.answer.Turned.{Turned}
+use Rattle.roam_realm.specs.Rooms.{only_done_due}
+use Rattle.roam_realm.specs.Turn.{Turn, sends, packets_of, refusal_of, state_after}
+use Rattle.roam_realm.specs.Happenings.{PlainHappening}
+use Rattle.roam_realm.specs.declared.answer.Answer.{Answer}
+use Rattle.roam_realm.specs.declared.answer.Turned.{Turned}
 use Rattle.roam_realm.specs.declared.start.Start.{Start}
 use Rattle.roam_core.specs.BrokerView.{BrokerView}
 use Rattle.roam_core.specs.Events.{is_in_shard, ticks}

@@ -7,10 +7,10 @@ use Rattle.roam_conf.specs.Config.{ConfigView}
 use Rattle.roam_pending.specs.DueOrder.{due_after, due_list, is_after}
 use Rattle.roam_pending.specs.PlainEntry.{PlainEntry}
 use Rattle.roam_pending.specs.declared.due.Due.{Due}
-use Rattle.roam_exchange.specs.OnTick.{on_tick}
+use Rattle.roam_realm.specs.OnTick.{on_tick}
 use Rattle.roam_realm.specs.RealmConfig.{RealmConfig, realm_config}
 use Rattle.roam_realm.specs.RealmState.{RealmState}
-use Rattle.roam_exchange.specs.Turn.{sends}
+use Rattle.roam_realm.specs.Turn.{sends}
 use Rattle.roam_realm.specs.declared.realm_numbers.RealmNumbers.{RealmNumbers}
 use Rattle.roam_core.specs.Events.{is_in_shard}
 use Rattle.roam_core.specs.ManyRealms.{tick_from, tick_of}

@@ -8,7 +8,7 @@ use Rattle.roam_pending.specs.EntryList.{IsInOrder}
 use Rattle.roam_pending.specs.PlainEntry.{PlainEntry}
 use Rattle.roam_pending.specs.declared.due.Due.{Due}
 use Rattle.roam_pending.proofs.DueListLemmas.{due-next}
-use Rattle.roam_exchange.proofs.RoomLemmas.{first_rest, last_or-more, no_first}
+use Rattle.roam_realm.proofs.RoomLemmas.{first_rest, last_or-more, no_first}
 use Rattle.roam_realm.specs.declared.realm_numbers.RealmNumbers.{RealmNumbers}
 use Rattle.roam_shard.specs.ShardView.{OpeningView, state_seen, states_from}
 use Rattle.roam_shard.specs.DueCount.{due_count}

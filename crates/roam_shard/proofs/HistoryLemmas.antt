@@ -6,7 +6,7 @@ use Rattle.roam_conf.specs.declared.exchange_lines.ExchangeLines.{ExchangeLines}
 use Rattle.roam_admission.specs.Admission.{Admission, PlainJob, admitted}
 use Rattle.roam_admission.specs.Events.{IsEvent, arrival_of}
 use Rattle.roam_realm.specs.RealmState.{RealmState}
-use Rattle.roam_exchange.specs.declared.answer.Answer.{Answer}
+use Rattle.roam_realm.specs.declared.answer.Answer.{Answer}
 use Rattle.roam_core.specs.Events.{PlainEvent, arrives, is_in_shard}
 use Rattle.roam_core.specs.HappeningsTo.{arrival_happening, happening_to, job_happening}
 use Rattle.roam_core.specs.ManyRealms.{BrokerTurn, answer_to, to_arrival}

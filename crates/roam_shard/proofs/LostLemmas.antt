@@ -8,7 +8,7 @@ use Rattle.roam_conf.specs.Config.{ConfigView}
 use Rattle.roam_admission.specs.Admission.{Admission, refused}
 use Rattle.roam_admission.specs.Shown.{IsAdmission}
 use Rattle.roam_realm.specs.RealmState.{RealmState}
-use Rattle.roam_exchange.specs.declared.answer.Answer.{Answer}
+use Rattle.roam_realm.specs.declared.answer.Answer.{Answer}
 use Rattle.roam_core.specs.ManyRealms.{to_arrival}
 use Rattle.roam_core.specs.Steps.{GivesAnswer}
 use Rattle.roam_shard.specs.Private.Lost.{IsLostOrRefused}

@@ -6,12 +6,12 @@ use Rattle.std.proofs.lemmas.Bool.{cases_Bool}
 use Rattle.roam_conf.specs.Config.{ConfigView}
 use Rattle.roam_conf.specs.declared.exchange_lines.ExchangeLines.{ExchangeLines}
 use Rattle.roam_pending.specs.declared.due.Due.{Due}
-use Rattle.roam_exchange.specs.Happenings.{PlainDue, by_turn, tick_happening, ticked}
-use Rattle.roam_exchange.specs.OnTick.{on_tick}
+use Rattle.roam_realm.specs.Happenings.{PlainDue, by_turn, tick_happening, ticked}
+use Rattle.roam_realm.specs.OnTick.{on_tick}
 use Rattle.roam_realm.specs.RealmConfig.{RealmConfig, realm_config}
 use Rattle.roam_realm.specs.RealmState.{RealmState}
-use Rattle.roam_exchange.specs.Rooms.{is_done_at, only_done_due}
-use Rattle.roam_exchange.specs.Turn.{Turn, hears, refuses, sends}
+use Rattle.roam_realm.specs.Rooms.{is_done_at, only_done_due}
+use Rattle.roam_realm.specs.Turn.{Turn, hears, refuses, sends}
 use Rattle.roam_rules.proofs.DoneDueLemmas.{done-said}
 use Rattle.roam_rules.proofs.LettingGoLemmas.{both}
 use Rattle.roam_core.specs.Events.{is_in_shard}

@@ -6,9 +6,9 @@ use Rattle.roam_conf.specs.Config.{ConfigView}
 use Rattle.roam_conf.specs.declared.exchange_lines.ExchangeLines.{ExchangeLines}
 use Rattle.roam_pending.specs.PlainEntry.{PlainEntry}
 use Rattle.roam_realm.specs.RealmState.{RealmState}
-use Rattle.roam_exchange.specs.Rooms.{only_done_due}
+use Rattle.roam_realm.specs.Rooms.{only_done_due}
 use Rattle.roam_realm.specs.declared.realm_numbers.RealmNumbers.{RealmNumbers}
-use Rattle.roam_exchange.specs.declared.tick_memory.Room.{Room}
+use Rattle.roam_realm.specs.declared.tick_memory.Room.{Room}
 use Rattle.roam_core.specs.Events.{is_in_shard}
 use Rattle.roam_core.specs.ManyRealms.{no_state, state_at}
 use Rattle.roam_core.specs.ShardRooms.{most_of, most_of_all, IsRealmRoom, AreRooms, wants_room}

@@ -11,15 +11,15 @@ use Rattle.roam_pending.specs.PlainEntry.{PlainEntry}
 use Rattle.roam_pending.specs.Stands.{RealmView, entries_in, keeps_in}
 use Rattle.roam_pending.proofs.RealmLemmas.{get-set_other, get-set_same}
 use Rattle.roam_conf.specs.declared.exchange_lines.ExchangeLines.{ExchangeLines}
-use Rattle.roam_exchange.specs.Happenings.{PlainHappening, tick_happening}
-use Rattle.roam_exchange.specs.HappeningsShown.{shown_happening}
-use Rattle.roam_exchange.specs.OnTick.{on_tick}
+use Rattle.roam_realm.specs.Happenings.{PlainHappening, tick_happening}
+use Rattle.roam_realm.specs.HappeningsShown.{shown_happening}
+use Rattle.roam_realm.specs.OnTick.{on_tick}
 use Rattle.roam_realm.specs.RealmConfig.{RealmConfig, realm_config}
 use Rattle.roam_realm.specs.RealmState.{RealmState}
 use Rattle.roam_realm.specs.Sound.{IsSound, OthersStay, state_of}
-use Rattle.roam_exchange.specs.Turn.{Turn, sends, packets_of, shown_outs, state_after}
-use Rattle.roam_exchange.specs.Turned.{GivesTurned}
-use Rattle.roam_exchange.specs.declared.answer.Turned.{Turned}
+use Rattle.roam_realm.specs.Turn.{Turn, sends, packets_of, shown_outs, state_after}
+use Rattle.roam_realm.specs.Turned.{GivesTurned}
+use Rattle.roam_realm.specs.declared.answer.Turned.{Turned}
 use Rattle.roam_realm.specs.declared.realm_numbers.RealmNumbers.{RealmNumbers}
 use Rattle.roam_core.specs.Events.{is_in_shard}
 use Rattle.roam_core.specs.ManyRealms.{no_state, state_at, turn_of_one}

@@ -7,13 +7,13 @@ use Rattle.roam_wire.specs.declared.refusal.Refusal.TheVariants as refusal
 use Rattle.roam_conf.specs.Config.{ConfigView}
 use Rattle.roam_conf.specs.declared.exchange_lines.ExchangeLines.{ExchangeLines}
 use Rattle.roam_admission.specs.Admission.{PlainOut}
-use Rattle.roam_exchange.specs.Happenings.{PlainDue, refused, tick_happening, ticked}
-use Rattle.roam_exchange.specs.OnTick.{on_tick}
+use Rattle.roam_realm.specs.Happenings.{PlainDue, refused, tick_happening, ticked}
+use Rattle.roam_realm.specs.OnTick.{on_tick}
 use Rattle.roam_realm.specs.RealmConfig.{realm_config}
 use Rattle.roam_realm.specs.RealmState.{RealmState}
-use Rattle.roam_exchange.specs.Turn.{shown_outs}
-use Rattle.roam_exchange.specs.declared.answer.Answer.{Answer}
-use Rattle.roam_exchange.specs.declared.tick_memory.Room.{Room}
+use Rattle.roam_realm.specs.Turn.{shown_outs}
+use Rattle.roam_realm.specs.declared.answer.Answer.{Answer}
+use Rattle.roam_realm.specs.declared.tick_memory.Room.{Room}
 use Rattle.roam_core.specs.Events.{is_in_shard}
 use Rattle.roam_core.specs.HappeningsTo.{dues_at, dues_from, dues_told, shard_happening}
 use Rattle.roam_core.specs.ManyRealms.{no_state, state_at, tick_of, to_tick}

@@ -2,12 +2,12 @@
 use Rattle.std.proofs.Common.{◌≡◌, ℕ, List, set, Result, Ok, Err, refl, ap, sym, ◌∙◌}
 use Rattle.std.proofs.lemmas.List.{set-get_or}
 use Rattle.roam_wire.specs.declared.refusal.NoMemory.{NoMemory}
-use Rattle.roam_exchange.specs.Happenings.{PlainHappening}
+use Rattle.roam_realm.specs.Happenings.{PlainHappening}
 use Rattle.roam_realm.specs.RealmState.{RealmState}
-use Rattle.roam_exchange.specs.Turned.{GivesTurned}
-use Rattle.roam_exchange.specs.Turn.{Turn, hears, refuses, sends, packets_of, state_after, Answers, refusal_of}
-use Rattle.roam_exchange.specs.declared.answer.Answer.{Answer}
-use Rattle.roam_exchange.specs.declared.answer.Turned.{Turned}
+use Rattle.roam_realm.specs.Turned.{GivesTurned}
+use Rattle.roam_realm.specs.Turn.{Turn, hears, refuses, sends, packets_of, state_after, Answers, refusal_of}
+use Rattle.roam_realm.specs.declared.answer.Answer.{Answer}
+use Rattle.roam_realm.specs.declared.answer.Turned.{Turned}
 use Rattle.roam_core.specs.ManyRealms.{no_state, packets_in_turn, state_at, states_after, turn_of_one, refusal_given}
 use Rattle.roam_core.specs.Steps.{IsAnswer}
 use Rattle.roam_shard.specs.Turns.{GivesTurn}

@@ -2,8 +2,8 @@
 use Rattle.std.specs.Prelude.{ℕ, List, Option, length, map, sum_by}
 use Rattle.roam_wire.specs.declared.refusal.Refusal.{Refusal}
 use Rattle.roam_admission.specs.Admission.{PlainOut}
-use Rattle.roam_exchange.specs.Turn.{shown_outs}
-use Rattle.roam_exchange.specs.declared.answer.Answer.{Answer}
+use Rattle.roam_realm.specs.Turn.{shown_outs}
+use Rattle.roam_realm.specs.declared.answer.Answer.{Answer}
 use Rattle.roam_core.specs.Events.{PlainEvent, arrives, ticks}
 
 -- an answer: the packets that are sent, or why none is

@@ -4,7 +4,7 @@ ghost use Rattle.std.specs.Prelude.{◌≡◌, ◌+◌, ◌≤◌, ◌++◌, len
 ghost use Rattle.roam_shard.specs.Private.Lost.{IsAnswerOf, IsLostOrRefused};
 
 use roam_admission::Out;
-use roam_exchange::{Answer, Outs, Turned, refused};
+use roam_realm::{Answer, Outs, Turned, refused};
 use roam_wire::{NoMemory, Refusal};
 use std::alloc::Allocator;
 

@@ -3,7 +3,7 @@
 ghost use Rattle.std.specs.Prelude.{◌≡◌, ◌≢◌, ◌≤◌, [], false, true, is_some, length};
 ghost use Rattle.roam_pending.specs.DueOrder.{due_list};
 ghost use Rattle.roam_pending.specs.Stands.{entries_in};
-ghost use Rattle.roam_exchange.specs.Rooms.{only_done_due};
+ghost use Rattle.roam_realm.specs.Rooms.{only_done_due};
 ghost use Rattle.roam_core.specs.ShardRooms.{only_done_from};
 ghost use Rattle.roam_shard.specs.ShardView.{HaveNumbers, OpeningView, state_seen, states_in};
 ghost use Rattle.roam_shard.specs.Turns.{NothingDue};

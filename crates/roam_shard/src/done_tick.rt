@@ -1,15 +1,14 @@
 //! A tick of a shard at which only done entries are due: they go, and no memory is wanted.
 
 ghost use Rattle.std.specs.Prelude.{◌≡◌, ◌<◌, ◌≤◌, ◌^◌, [], true, length, slice_set};
-ghost use Rattle.roam_exchange.specs.Rooms.{only_done_due};
-ghost use Rattle.roam_exchange.specs.Turn.{sends};
+ghost use Rattle.roam_realm.specs.Rooms.{only_done_due};
+ghost use Rattle.roam_realm.specs.Turn.{sends};
 ghost use Rattle.roam_core.specs.Events.{is_in_shard};
 ghost use Rattle.roam_core.specs.ManyRealms.{state_at, tick_from, tick_of};
 ghost use Rattle.roam_core.specs.ShardRooms.{only_done_from};
 
 use crate::shard::Shard;
-use roam_exchange::LeftConversation;
-use roam_realm::RealmSettings;
+use roam_realm::{LeftConversation, RealmSettings};
 use roam_rules::RealmBroker;
 use std::alloc::Allocator;
 

@@ -2,14 +2,14 @@
 
 ghost use Rattle.std.specs.Prelude.{◌≡◌, ℕ, ◌+◌, ◌++◌, ◌≤◌, [], None, length, IfOk};
 ghost use Rattle.std.specs.Prelude.{vec_capacity, vec_len};
-ghost use Rattle.roam_exchange.specs.Happenings.{ticked};
-ghost use Rattle.roam_exchange.specs.HappeningsShown.{dues_in, shown_dues, shown_happening};
+ghost use Rattle.roam_realm.specs.Happenings.{ticked};
+ghost use Rattle.roam_realm.specs.HappeningsShown.{dues_in, shown_dues, shown_happening};
 ghost use Rattle.roam_core.specs.HappeningsTo.{dues_told};
 ghost use Rattle.roam_shard.specs.Private.Rooms.{HasPlaces};
 
 use crate::answers::append_reserved;
 use roam_admission::Out;
-use roam_exchange::{Answer, DueHappening, Happening, LeftConversation, Outs, Turned};
+use roam_realm::{Answer, DueHappening, Happening, LeftConversation, Outs, Turned};
 use roam_wire::NoMemory;
 use std::alloc::Allocator;
 

@@ -3,15 +3,15 @@
 ghost use Rattle.std.specs.Prelude.{◌≡◌};
 ghost use Rattle.roam_admission.specs.Shown.{shown_job};
 ghost use Rattle.roam_rules.specs.BookView.{IsTakenFrom};
-ghost use Rattle.roam_exchange.specs.OneRealm.{event_of, on_event};
-ghost use Rattle.roam_exchange.specs.Happenings.{event_happening};
+ghost use Rattle.roam_realm.specs.OneRealm.{event_of, on_event};
+ghost use Rattle.roam_realm.specs.Happenings.{event_happening};
 ghost use Rattle.roam_rules.specs.RealmTurn.{IsRealm};
 ghost use Rattle.roam_rules.specs.RealmTurn.{TurnsTelling};
 
 use roam_admission::{Job, Side};
 use roam_conf::ExchangeLines;
-use roam_exchange::Turned;
 use roam_pending::Entries;
+use roam_realm::Turned;
 use roam_rules::{RealmBroker, request_of_job};
 use roam_wire::NoMemory;
 use std::alloc::Allocator;

@@ -2,7 +2,7 @@
 
 ghost use Rattle.std.specs.Prelude.{◌≡◌, ◌≢◌, ◌⊎◌, ◌↔◌, ℕ, [], Err, OnOk, IfErr, IsOk, IsErrOf};
 ghost use Rattle.std.specs.Io.KnownBytes.{Appends};
-ghost use Rattle.roam_exchange.specs.Turn.{shown_outs};
+ghost use Rattle.roam_realm.specs.Turn.{shown_outs};
 ghost use Rattle.roam_conf_reader.specs.Faults.{IsFirstFault};
 ghost use Rattle.roam_conf.specs.Shown.{shown};
 ghost use Rattle.roam_conf_reader.specs.declared.fault.ConfFault.{ConfFault};

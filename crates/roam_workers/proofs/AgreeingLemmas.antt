@@ -5,8 +5,8 @@ use Rattle.roam_conf.specs.declared.exchange_lines.ExchangeLines.{ExchangeLines}
 use Rattle.roam_admission.specs.Admission.{PlainOut}
 use Rattle.roam_realm.specs.RealmState.{RealmState}
 use Rattle.roam_admission.specs.Events.{arrival_of}
-use Rattle.roam_exchange.specs.Happenings.{PlainHappening}
-use Rattle.roam_exchange.specs.HappeningsShown.{shown_happening}
+use Rattle.roam_realm.specs.Happenings.{PlainHappening}
+use Rattle.roam_realm.specs.HappeningsShown.{shown_happening}
 use Rattle.roam_core.specs.Agreement.{EventAgrees}
 use Rattle.roam_core.specs.Events.{PlainEvent, arrives, ticks}
 use Rattle.roam_core.specs.HappeningsTo.{happening_to}

@@ -5,7 +5,7 @@ use Rattle.roam_wire.specs.declared.refusal.Refusal.{Refusal}
 use Rattle.roam_wire.specs.declared.refusal.Refusal.TheVariants as refusal
 use Rattle.roam_conf.specs.Config.{ConfigView}
 use Rattle.roam_conf.specs.declared.exchange_lines.ExchangeLines.{ExchangeLines}
-use Rattle.roam_exchange.specs.HappeningsShown.{shown_happening}
+use Rattle.roam_realm.specs.HappeningsShown.{shown_happening}
 use Rattle.roam_admission.specs.Admission.{Arrival, PlainJob, admission, admitted, refused, answered_here}
 use Rattle.roam_conf.specs.declared.place.Place.{Place}
 use Rattle.roam_conf.specs.declared.place.Place.TheVariants as place

@@ -4,7 +4,7 @@ use Rattle.std.specs.declared.alloc.Global.{Global}
 use Rattle.std.proofs.lemmas.List.Sums.{fold-append}
 use Rattle.roam_admission.specs.Admission.{Arrival, PlainJob}
 use Rattle.roam_conf.specs.declared.exchange_lines.ExchangeLines.{ExchangeLines}
-use Rattle.roam_exchange.specs.HappeningsShown.{shown_happening}
+use Rattle.roam_realm.specs.HappeningsShown.{shown_happening}
 use Rattle.roam_history.specs.HubOpening.{HubOpening}
 use Rattle.roam_history.specs.Seats.{SeatView}
 use Rattle.roam_counters.proofs.OwnCountLemmas.{are-sums}

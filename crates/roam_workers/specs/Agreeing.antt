@@ -5,8 +5,8 @@ use Rattle.std.specs.Prelude.{ℕ}
 use Rattle.roam_conf.specs.declared.exchange_lines.ExchangeLines.{ExchangeLines}
 use Rattle.roam_admission.specs.Admission.{PlainJob}
 use Rattle.roam_admission.specs.Events.{arrival_of}
-use Rattle.roam_exchange.specs.HappeningsShown.{shown_happening}
-use Rattle.roam_exchange.specs.Turn.{shown_outs}
+use Rattle.roam_realm.specs.HappeningsShown.{shown_happening}
+use Rattle.roam_realm.specs.Turn.{shown_outs}
 use Rattle.roam_core.specs.Agreement.{EventAgrees}
 use Rattle.roam_core.specs.Events.{arrives, ticks}
 use Rattle.roam_history.specs.Calls.{IsTicked}

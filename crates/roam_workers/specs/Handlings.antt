@@ -13,7 +13,7 @@ use Rattle.roam_history.specs.HubOpening.{HubOpening}
 use Rattle.roam_history.specs.Seats.{SeatView}
 use Rattle.roam_history.specs.Calls.{HasHappened, IsCall, answered_step}
 use Rattle.roam_history.specs.declared.answered.Answered.{Answered}
-use Rattle.roam_exchange.specs.HappeningsShown.{shown_happening}
+use Rattle.roam_realm.specs.HappeningsShown.{shown_happening}
 use Rattle.roam_conf.specs.declared.exchange_lines.ExchangeLines.{ExchangeLines}
 use Rattle.roam_counters.specs.Arrivals.{arrival_increments, failed_increments, refused_increments}
 use Rattle.roam_counters.specs.Datagrams.{handled}
@@ -26,7 +26,7 @@ use Rattle.roam_counters.specs.declared.datagrams.Handling.TheVariants as handli
 use Rattle.roam_outgoing.specs.Counting.{counts_in, wait_of}
 use Rattle.roam_outgoing.specs.Packets.{turn_of}
 use Rattle.roam_outgoing.specs.declared.counting.Counting.{Counting}
-use Rattle.roam_exchange.specs.Turn.{shown_outs}
+use Rattle.roam_realm.specs.Turn.{shown_outs}
 use Rattle.roam_outgoing.specs.Sending.{PutsEach, outbox_in}
 use Rattle.roam_outgoing.specs.declared.outgoing.Outgoing.{Outgoing}
 use Rattle.roam_port.specs.declared.outbox.Outbox.{Outbox}

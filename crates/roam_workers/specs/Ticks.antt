@@ -9,7 +9,7 @@ use Rattle.roam_history.specs.Seats.{SeatView}
 use Rattle.roam_history.specs.Calls.{IsTicked}
 use Rattle.roam_history.specs.declared.answered.Ticked.{Ticked}
 use Rattle.roam_counters.specs.Arrivals.{refused_here_increments, tick_counts}
-use Rattle.roam_exchange.specs.Turn.{shown_outs}
+use Rattle.roam_realm.specs.Turn.{shown_outs}
 use Rattle.roam_outgoing.specs.Sending.{PutsEach}
 use Rattle.roam_workers.specs.Handlings.{AtWork}
 

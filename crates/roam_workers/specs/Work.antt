@@ -6,8 +6,8 @@ use Rattle.roam_admission.specs.Admission.{Arrival, PlainJob, PlainOut}
 use Rattle.roam_admission.specs.RejectCauses.{code_of}
 use Rattle.roam_wire.specs.declared.refusal.Refusal.TheVariants as refusal
 use Rattle.roam_conf.specs.declared.exchange_lines.ExchangeLines.{ExchangeLines}
-use Rattle.roam_exchange.specs.HappeningsShown.{shown_happening}
-use Rattle.roam_exchange.specs.Turn.{shown_outs}
+use Rattle.roam_realm.specs.HappeningsShown.{shown_happening}
+use Rattle.roam_realm.specs.Turn.{shown_outs}
 use Rattle.roam_history.specs.HubOpening.{HubOpening}
 use Rattle.roam_history.specs.Seats.{SeatView}
 use Rattle.roam_counters.specs.Arrivals.{arrival_increments, failed_increments, refused_here_increments, refused_increments, tick_counts}

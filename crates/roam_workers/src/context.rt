@@ -3,7 +3,7 @@
 ghost use Rattle.std.specs.Prelude.{◌≡◌, []};
 ghost use Rattle.roam_counters.specs.OwnCounts.{raised_all};
 ghost use Rattle.roam_workers.specs.Remedies as remedies;
-ghost use Rattle.roam_exchange.specs.Turn.{shown_outs};
+ghost use Rattle.roam_realm.specs.Turn.{shown_outs};
 ghost use Rattle.roam_counters.specs.Arrivals.{tick_counts};
 ghost use Rattle.roam_outgoing.specs.Counting.{counts_in};
 ghost use Rattle.roam_outgoing.specs.Sending.{PutsEach, outbox_in};

@@ -4,11 +4,11 @@ use Rattle.roam_wire.specs.declared.refusal.Refusal.{Refusal}
 use Rattle.roam_admission.specs.declared.datagram.Out.{Out}
 use Rattle.roam_pending.specs.PlainEntry.{PlainEntry}
 use Rattle.roam_pending.specs.DueOrder.{due_list}
-use Rattle.roam_exchange.specs.declared.answer.Answer.{Answer}
-use Rattle.roam_exchange.specs.OnTick.{as_turn, due_each, on_tick}
+use Rattle.roam_realm.specs.declared.answer.Answer.{Answer}
+use Rattle.roam_realm.specs.OnTick.{as_turn, due_each, on_tick}
 use Rattle.roam_realm.specs.RealmConfig.{RealmConfig}
 use Rattle.roam_realm.specs.RealmState.{RealmState}
-use Rattle.roam_exchange.specs.Turn.{Answers, in_time, packets_of, refuses, sends, shown_outs}
+use Rattle.roam_realm.specs.Turn.{Answers, in_time, packets_of, refuses, sends, shown_outs}
 
 -- packets of which none is seen are none
 none_seen : {A : Type 0} (outs : List (Out A)) → shown_outs outs ≡ [] → outs ≡ []

@@ -3,7 +3,7 @@
 
 ghost use Rattle.std.specs.Prelude.{IfOk, length};
 ghost use Rattle.roam_conf.specs.Shown.{shown};
-ghost use Rattle.roam_exchange.specs.Turn.{shown_outs};
+ghost use Rattle.roam_realm.specs.Turn.{shown_outs};
 ghost use Rattle.roam_core.specs.BrokerView.{BrokerView};
 ghost use Rattle.roam_core.specs.Events.{kept};
 ghost use Rattle.roam_core.specs.Isolation.{IsIsolatedFromStart};

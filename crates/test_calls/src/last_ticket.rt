@@ -6,7 +6,7 @@ use crate::realm::Realm;
 use roam_admission::Out;
 use roam_conf::Config;
 use roam_core::Event;
-use roam_exchange::Answer;
+use roam_realm::Answer;
 use roam_sim::{print_packet, read_script};
 use roam_wire::Refusal;
 use std::alloc::{Allocator, Global};

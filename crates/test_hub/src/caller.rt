@@ -7,8 +7,8 @@ ghost use Rattle.roam_admission.specs.Shown.{shown_job};
 
 use roam_admission::{Datagram, Job, Prepared, prepare};
 use roam_conf::{Address, Config, Endpoint, Place};
-use roam_exchange::Answer;
 use roam_hub::{Gate, Hub, HubFault, Opened, Receipt, Seat};
+use roam_realm::Answer;
 use roam_wire::Octets;
 use std::alloc::Allocator;
 use std::process::Abort;

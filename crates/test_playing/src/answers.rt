@@ -1,8 +1,8 @@
 //! Answers as lines, and the first line in which two texts differ.
 
 use roam_admission::Out;
-use roam_exchange::{Answer, Outs};
 use roam_hub::HubFault;
+use roam_realm::{Answer, Outs};
 use roam_sim::print_packet;
 use std::alloc::Allocator;
 use std::io;

@@ -5,8 +5,8 @@ use crate::player::Over;
 use crate::traces::Traces;
 use roam_conf::Config;
 use roam_core::{Broker, Event, Outcome, Stepper, run};
-use roam_exchange::Answer;
 use roam_hub::HubFault;
+use roam_realm::Answer;
 use roam_shard::Shards;
 use roam_wire::NoMemory;
 

@@ -9,8 +9,8 @@ use crate::early::lost_or_refused;
 use roam_admission::{Datagram, Job, Prepared, prepare};
 use roam_conf::Config;
 use roam_core::Event;
-use roam_exchange::{Answer, one_packet};
 use roam_hub::{Hub, HubFault, Open, Opened, Receipt, Seat};
+use roam_realm::{Answer, one_packet};
 use std::alloc::Allocator;
 use std::sync::Wait;
 

@@ -1,7 +1,7 @@
 //! Answers to arrivals that come to no realm.
 
-use roam_exchange::{Answer, refused};
 use roam_hub::HubFault;
+use roam_realm::{Answer, refused};
 use roam_wire::Refusal;
 use std::alloc::Allocator;
 

@@ -5,7 +5,7 @@ use crate::brokers::{Kept, Playing};
 use crate::row::Step;
 use crate::tally::Tally;
 use roam_conf::Config;
-use roam_exchange::Answer;
+use roam_realm::Answer;
 use std::alloc::Global;
 use std::io;
 use test_support::Refusing;

@@ -6,7 +6,7 @@ use crate::player::{Over, Player};
 use crate::row::{Row, Step};
 use roam_conf::Config;
 use roam_core::Event;
-use roam_exchange::Answer;
+use roam_realm::Answer;
 use roam_sim::sim;
 use std::io::Write;
 

@@ -2,7 +2,7 @@
 
 use roam_conf::Config;
 use roam_core::Event;
-use roam_exchange::Answer;
+use roam_realm::Answer;
 use std::mem::swap;
 use test_playing::{Over, Player, Playing, Row, Step, WANTING};
 

@@ -10,15 +10,15 @@ use Rattle.std.specs.List.{find}
 use Rattle.std.specs.Option.{option_and_then, option_or}
 use Rattle.roam_realm.specs.LaneState.{LaneState}
 use Rattle.roam_realm.specs.Conversing.{asked_state, bound_link, new_target, rests_chosen}
-use Rattle.roam_exchange.specs.Happenings.{PlainHappening, by_turn, forwarded, replaced_by, to_target}
+use Rattle.roam_realm.specs.Happenings.{PlainHappening, by_turn, forwarded, replaced_by, to_target}
 use Rattle.roam_realm.specs.RealmState.{RealmState, Target, next_toward, with_rests}
 use Rattle.roam_realm.specs.Shapings.{forwarded_size}
-use Rattle.roam_exchange.specs.Turn.{Turn, refuses}
-use Rattle.roam_exchange.specs.Turned.{IsTurned}
-use Rattle.roam_exchange.specs.OnRequest.{admit, new_request, targets}
+use Rattle.roam_realm.specs.Turn.{Turn, refuses}
+use Rattle.roam_realm.specs.Turned.{IsTurned}
+use Rattle.roam_realm.specs.OnRequest.{admit, new_request, targets}
 use Rattle.roam_rules.specs.Replacing.{CountsAsReplaced, replaced_ticket}
 use Rattle.roam_realm.specs.Sound.{IsRequest, chosen_link, is_sought}
-use Rattle.roam_exchange.specs.Memory.{HasBuffers}
+use Rattle.roam_realm.specs.Memory.{HasBuffers}
 use Rattle.roam_realm.specs.declared.link_rests.Wanted.TheVariants as wanted
 use Rattle.roam_realm.specs.declared.rest.Rest.{Rest}
 use Rattle.roam_rules.specs.declared.rules.admit.Supplies.{Supplies}

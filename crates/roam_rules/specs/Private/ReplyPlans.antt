@@ -7,10 +7,10 @@ use Rattle.roam_conf.specs.declared.place.Link.{Link}
 use Rattle.roam_realm.specs.RealmConfig.{RealmConfig, IsLink}
 use Rattle.roam_realm.specs.Rests.{after_sign}
 use Rattle.roam_realm.specs.RealmState.{RealmState}
-use Rattle.roam_exchange.specs.Happenings.{PlainHappening}
-use Rattle.roam_exchange.specs.Turn.{Turn, packets_of}
-use Rattle.roam_exchange.specs.Turned.{IsTurned}
-use Rattle.roam_exchange.specs.OnReply.{counted, once_heard_from}
+use Rattle.roam_realm.specs.Happenings.{PlainHappening}
+use Rattle.roam_realm.specs.Turn.{Turn, packets_of}
+use Rattle.roam_realm.specs.Turned.{IsTurned}
+use Rattle.roam_realm.specs.OnReply.{counted, once_heard_from}
 use Rattle.roam_rules.specs.declared.rules.replies.Settled.{Settled}
 use Rattle.roam_rules.specs.declared.rules.replies.ReplyPlan.{ReplyPlan}
 

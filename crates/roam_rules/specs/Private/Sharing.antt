@@ -4,7 +4,7 @@ use Rattle.std.specs.Option.{option_map_or}
 use Rattle.roam_conf.specs.declared.place.Link.{Link}
 use Rattle.roam_pending.specs.PlainEntry.{PlainEntry}
 use Rattle.roam_pending.specs.EntryList.{find_link, is_beside}
-use Rattle.roam_exchange.specs.Shares.{name_part, same_part, same_peer}
+use Rattle.roam_realm.specs.Shares.{name_part, same_part, same_peer}
 use Rattle.roam_rules.specs.declared.rules.share.Sharer.{Sharer}
 use Rattle.roam_rules.specs.declared.rules.share.Sharer.TheVariants as sharer
 

@@ -5,9 +5,9 @@ ghost use Rattle.std.specs.Prelude.{IfOk, OnOk};
 ghost use Rattle.roam_pending.specs.PlainEntry.{PlainRequest};
 ghost use Rattle.roam_pending.specs.EntryList.{besides};
 ghost use Rattle.roam_admission.specs.Shown.{shown_out};
-ghost use Rattle.roam_exchange.specs.Happenings.{replaced_by};
-ghost use Rattle.roam_exchange.specs.HappeningsShown.{shown_happening, shown_replaced};
-ghost use Rattle.roam_exchange.specs.Memory.{HasBuffers};
+ghost use Rattle.roam_realm.specs.Happenings.{replaced_by};
+ghost use Rattle.roam_realm.specs.HappeningsShown.{shown_happening, shown_replaced};
+ghost use Rattle.roam_realm.specs.Memory.{HasBuffers};
 ghost use Rattle.roam_realm.specs.RealmConfig.{IsLink};
 ghost use Rattle.roam_realm.specs.Shapings.{forwarded_size};
 ghost use Rattle.roam_rules.specs.Private.NewEntry.{AreSupplies, IsAdmitPlan, MakesWay, admits, admitted_by, cleared, forwards, replaced_entry};
@@ -17,20 +17,20 @@ ghost use Rattle.roam_realm.specs.RealmState.{with_rests};
 ghost use Rattle.roam_rules.specs.RealmTurn.{IsRealm, Keeps, entries, room, state};
 ghost use Rattle.roam_rules.specs.Replacing.{CountsAsReplaced, replaced_ticket};
 ghost use Rattle.roam_realm.specs.Sound.{IsRequest, IsSameButSlots, lane_of, marks_of};
-ghost use Rattle.roam_exchange.specs.Shown.{shown_request};
-ghost use Rattle.roam_exchange.specs.Turn.{Answers, packets_of, state_after};
+ghost use Rattle.roam_realm.specs.Shown.{shown_request};
+ghost use Rattle.roam_realm.specs.Turn.{Answers, packets_of, state_after};
 
 use crate::realm_broker::RealmBroker;
 use crate::rules::admit_plan::AdmitPlan;
 use crate::rules::replaced::Replaced;
 use roam_admission::Out;
 use roam_conf::Link;
-use roam_exchange::{
-    Buffers, Happening, Hop, RequestRef, Turned, Waited, one_packet, send_new, waited_in,
-};
 use roam_forward::forwarded_shaped_len;
 use roam_pending::{Course, Entries, Entry, Request, Standing, insert_entry};
-use roam_realm::RealmSettings;
+use roam_realm::{
+    Buffers, Happening, Hop, RealmSettings, RequestRef, Turned, Waited, one_packet, send_new,
+    waited_in,
+};
 use roam_wire::{NoMemory, Octets, View};
 use std::alloc::Allocator;
 

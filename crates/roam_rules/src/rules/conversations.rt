@@ -11,15 +11,14 @@ ghost use Rattle.roam_rules.specs.Private.NewEntry.{way_of_end};
 ghost use Rattle.roam_realm.specs.RealmConfig.{IsLink};
 ghost use Rattle.roam_rules.specs.RealmTurn.{IsRealm, entries};
 ghost use Rattle.roam_realm.specs.Sound.{IsRequest, is_sought};
-ghost use Rattle.roam_exchange.specs.Shown.{shown_request};
+ghost use Rattle.roam_realm.specs.Shown.{shown_request};
 
 use crate::realm_broker::RealmBroker;
 use crate::rules::admit_plan::LinkChoice;
 use crate::rules::targets::Targets;
 use roam_conf::Link;
-use roam_exchange::RequestRef;
 use roam_pending::{Entries, Requester};
-use roam_realm::{RealmSettings, Wanted};
+use roam_realm::{RealmSettings, RequestRef, Wanted};
 use roam_wire::View;
 use roam_wire::attribute_type::STATE;
 use roam_wire::code::ACCESS_REQUEST;

@@ -6,12 +6,12 @@ ghost use Rattle.std.specs.Prelude.{◌≡◌, option_map};
 ghost use Rattle.roam_rules.specs.Private.Courses.{round_ticket, ticket_before};
 ghost use Rattle.roam_rules.specs.RealmTurn.{IsRealm, Keeps, entries, state};
 ghost use Rattle.roam_realm.specs.Sound.{IsRequest};
-ghost use Rattle.roam_exchange.specs.Shown.{shown_request};
+ghost use Rattle.roam_realm.specs.Shown.{shown_request};
 
 use crate::realm_broker::RealmBroker;
 use crate::rules::conversations::state_in;
-use roam_exchange::RequestRef;
 use roam_pending::{Course, Entries, Requester};
+use roam_realm::RequestRef;
 use roam_wire::View;
 use std::alloc::Allocator;
 

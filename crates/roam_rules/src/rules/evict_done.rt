@@ -3,15 +3,15 @@
 ghost use Rattle.std.specs.Prelude.{◌≡◌, ◌≤◌, ◌^◌, [], true};
 ghost use Rattle.roam_pending.specs.EntryList.{find_ticket, without};
 ghost use Rattle.roam_pending.specs.Shown.{seen};
-ghost use Rattle.roam_exchange.specs.OnTick.{on_tick};
+ghost use Rattle.roam_realm.specs.OnTick.{on_tick};
 ghost use Rattle.roam_realm.specs.RealmState.{with_entries};
 ghost use Rattle.roam_rules.specs.RealmTurn.{IsRealm, Keeps, entries, state};
-ghost use Rattle.roam_exchange.specs.Rooms.{done_or_gone, only_done_due};
-ghost use Rattle.roam_exchange.specs.Turn.{sends};
+ghost use Rattle.roam_realm.specs.Rooms.{done_or_gone, only_done_due};
+ghost use Rattle.roam_realm.specs.Turn.{sends};
 
 use crate::realm_broker::RealmBroker;
-use roam_exchange::{LeftConversation, left_with, note_left};
 use roam_pending::{Entries, Entry, Standing};
+use roam_realm::{LeftConversation, left_with, note_left};
 use std::alloc::Allocator;
 
 /// Returns whether an entry was answered, or isn't there.

@@ -5,22 +5,21 @@ ghost use Rattle.roam_pending.specs.PlainEntry.{PlainRequest};
 ghost use Rattle.roam_rules.specs.Private.NewEntry.{AreConfigured, Chooses, IsByTarget, IsNew, IsAdmitPlan, freed_link, links_of};
 ghost use Rattle.roam_rules.specs.Private.NewEntry.{once_replaced, straight_after, target_at};
 ghost use Rattle.roam_realm.specs.Conversing.{rests_chosen};
-ghost use Rattle.roam_exchange.specs.OnRequest.{at_target, new_request};
+ghost use Rattle.roam_realm.specs.OnRequest.{at_target, new_request};
 ghost use Rattle.roam_realm.specs.RealmConfig.{IsLink};
 ghost use Rattle.roam_realm.specs.RealmState.{with_rests};
 ghost use Rattle.roam_rules.specs.RealmTurn.{IsRealm, entries, state};
 ghost use Rattle.roam_rules.specs.Replacing.{CountsAsReplaced, replaced_ticket};
 ghost use Rattle.roam_realm.specs.Sound.{chosen_link};
-ghost use Rattle.roam_exchange.specs.Shown.{shown_request};
+ghost use Rattle.roam_realm.specs.Shown.{shown_request};
 
 use crate::realm_broker::RealmBroker;
 use crate::rules::admit_plan::{AdmitPlan, LinkChoice};
 use crate::rules::replaced::Replaced;
 use crate::rules::targets::Targets;
 use roam_conf::Link;
-use roam_exchange::RequestRef;
 use roam_pending::Entries;
-use roam_realm::Wanted;
+use roam_realm::{RequestRef, Wanted};
 use roam_wire::Refusal;
 use std::alloc::Allocator;
 

@@ -9,27 +9,27 @@ ghost use Rattle.roam_wire.specs.Reading.{IsPacketText};
 ghost use Rattle.roam_pending.specs.EntryList.{find_client, without_client};
 ghost use Rattle.roam_pending.specs.Shown.{shown_standing};
 ghost use Rattle.roam_rules.specs.Private.NewEntry.{AreConfigured, IsNew, IsRequestPlan, replaced_entry, links_of, new_happening, once_replaced};
-ghost use Rattle.roam_exchange.specs.OnRequest.{first_seen, held_reply, is_reverse, nak_octets, new_request, of_key};
-ghost use Rattle.roam_exchange.specs.OnRequest.{on_request, packet_to_requester, reverse_cause, targets};
-ghost use Rattle.roam_exchange.specs.Happenings as happenings;
-ghost use Rattle.roam_exchange.specs.Happenings.{by_turn, first_sent, of_duplicate, request_happening, sent_for};
-ghost use Rattle.roam_exchange.specs.HappeningsShown.{shown_happening};
+ghost use Rattle.roam_realm.specs.OnRequest.{first_seen, held_reply, is_reverse, nak_octets, new_request, of_key};
+ghost use Rattle.roam_realm.specs.OnRequest.{on_request, packet_to_requester, reverse_cause, targets};
+ghost use Rattle.roam_realm.specs.Happenings as happenings;
+ghost use Rattle.roam_realm.specs.Happenings.{by_turn, first_sent, of_duplicate, request_happening, sent_for};
+ghost use Rattle.roam_realm.specs.HappeningsShown.{shown_happening};
 ghost use Rattle.roam_rules.specs.RealmTurn.{IsRealm, entries, state, TurnsTelling};
 ghost use Rattle.roam_rules.specs.Replacing.{CountsAsReplaced};
 ghost use Rattle.roam_realm.specs.Sound.{IsRequest};
-ghost use Rattle.roam_exchange.specs.Shown.{shown_request};
-ghost use Rattle.roam_exchange.specs.Turn.{packets_of, shown_outs};
+ghost use Rattle.roam_realm.specs.Shown.{shown_request};
+ghost use Rattle.roam_realm.specs.Turn.{packets_of, shown_outs};
 
 use crate::realm_broker::RealmBroker;
 use crate::rules::admit_plan::AdmitPlan;
 use crate::rules::replaced::Replaced;
 use crate::rules::targets::Targets;
 use roam_admission::is_reverse_request;
-use roam_exchange::{
-    Happening, RequestRef, Turned, code_in, nothing, one_packet, packet_to_requester, refused_turn,
-};
 use roam_pending::{Entries, Entry, Standing};
-use roam_realm::RealmSettings;
+use roam_realm::{
+    Happening, RealmSettings, RequestRef, Turned, code_in, nothing, one_packet,
+    packet_to_requester, refused_turn,
+};
 use roam_reply::nak;
 use roam_wire::{NoMemory, Octets, Refusal, View};
 use std::alloc::Allocator;

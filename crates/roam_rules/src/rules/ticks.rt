@@ -6,19 +6,19 @@ ghost use Rattle.roam_conf.specs.declared.exchange_lines.ExchangeLines.{Exchange
 ghost use Rattle.roam_pending.specs.EntryList.{find_ticket};
 ghost use Rattle.roam_pending.specs.Realms.{RealmBecomes};
 ghost use Rattle.roam_admission.specs.Admission.{PlainOut};
-ghost use Rattle.roam_exchange.specs.Happenings.{PlainDue, due_of, keeps_given_up, tick_happening};
-ghost use Rattle.roam_exchange.specs.HappeningsShown.{dues_in};
-ghost use Rattle.roam_exchange.specs.OnTick.{on_tick, due_one};
-ghost use Rattle.roam_exchange.specs.Dues.{HasRequestRoom};
-ghost use Rattle.roam_exchange.specs.Memory.{AreDues, HasBuffers, HasPlace, IsOuts};
+ghost use Rattle.roam_realm.specs.Happenings.{PlainDue, due_of, keeps_given_up, tick_happening};
+ghost use Rattle.roam_realm.specs.HappeningsShown.{dues_in};
+ghost use Rattle.roam_realm.specs.OnTick.{on_tick, due_one};
+ghost use Rattle.roam_realm.specs.Dues.{HasRequestRoom};
+ghost use Rattle.roam_realm.specs.Memory.{AreDues, HasBuffers, HasPlace, IsOuts};
 ghost use Rattle.roam_rules.specs.RealmTurn.{IsRealm, Keeps, KeepsLoans, entries, state, TurnsTelling};
-ghost use Rattle.roam_exchange.specs.Rooms.{IsRoomFor, size_of};
-ghost use Rattle.roam_exchange.specs.DueActions.{HoldsNoLink, KeepsNoLink, action_packets, action_entries, once_held};
+ghost use Rattle.roam_realm.specs.Rooms.{IsRoomFor, size_of};
+ghost use Rattle.roam_realm.specs.DueActions.{HoldsNoLink, KeepsNoLink, action_packets, action_entries, once_held};
 
 use crate::realm_broker::RealmBroker;
 use crate::rules::requests::LATEST;
-use roam_exchange::{AnswerBuilder, DueAction, Room, TickSlot, Turned, act_on_due, happening_of};
 use roam_pending::{Done, Entries, Standing, send_again, set_standing};
+use roam_realm::{AnswerBuilder, DueAction, Room, TickSlot, Turned, act_on_due, happening_of};
 use roam_wire::Refusal;
 use std::alloc::Allocator;
 

@@ -4,9 +4,9 @@ use Rattle.std.specs.Prelude.{◌≡◌, ◌≢◌, [], Some, Result, Ok, Err}
 use Rattle.roam_wire.specs.declared.refusal.NoMemory.{NoMemory}
 use Rattle.roam_wire.specs.declared.refusal.Refusal.{Refusal}
 use Rattle.roam_wire.specs.declared.refusal.Refusal.TheVariants as refusal
-use Rattle.roam_exchange.specs.Turn.{shown_outs}
-use Rattle.roam_exchange.specs.declared.answer.Answer.{Answer}
-use Rattle.roam_exchange.specs.declared.answer.Turned.{Turned}
+use Rattle.roam_realm.specs.Turn.{shown_outs}
+use Rattle.roam_realm.specs.declared.answer.Answer.{Answer}
+use Rattle.roam_realm.specs.declared.answer.Turned.{Turned}
 
 -- an answer is this refusal, which isn't want of memory
 pub record IsRefusal {A : Type 0} (a : Answer A) (why : Refusal) : Type 0 where

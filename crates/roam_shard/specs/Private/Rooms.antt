@@ -2,7 +2,7 @@
 use Rattle.std.specs.Prelude.{◌≡◌, ℕ, ◌+◌, ◌≤◌, List, Option, IfSome, vec_len, vec_capacity}
 use Rattle.std.specs.List.{AllByRecursion}
 use Rattle.roam_conf.specs.declared.exchange_lines.ExchangeLines.{ExchangeLines}
-use Rattle.roam_exchange.specs.declared.tick_memory.Room.{Room}
+use Rattle.roam_realm.specs.declared.tick_memory.Room.{Room}
 use Rattle.roam_shard.specs.declared.gathered.Gathered.{Gathered}
 
 -- a room, if there is one, is that of a tick for these lines

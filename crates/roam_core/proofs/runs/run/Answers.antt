@@ -5,7 +5,7 @@ use Rattle.std.proofs.Math.ListN.{get_or-map}
 use Rattle.std.proofs.lemmas.List.{map-append, length-map}
 use Rattle.roam_conf.specs.Config.{ConfigView}
 use Rattle.roam_admission.specs.Shown.{shown_out}
-use Rattle.roam_exchange.specs.Turn.{shown_outs}
+use Rattle.roam_realm.specs.Turn.{shown_outs}
 use Rattle.roam_core.specs.Shown.{shown_event, shown_events}
 use Rattle.roam_core.specs.Runs.{ArePlaces}
 use Rattle.roam_core.specs.Steps.{EventWantsMemory}

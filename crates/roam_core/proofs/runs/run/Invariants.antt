@@ -1,5 +1,5 @@
 use Rattle.std.proofs.Common.{take}
-use Rattle.roam_exchange.specs.Turn.{shown_outs}
+use Rattle.roam_realm.specs.Turn.{shown_outs}
 use Rattle.roam_core.specs.Runs.{EachWantsMemory, WereGiven}
 use Rattle.roam_core.specs.Shown.{shown_events}
 use Rattle.roam_core.proofs.RunLemmas.{HasRun}

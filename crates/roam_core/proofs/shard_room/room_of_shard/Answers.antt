@@ -2,7 +2,7 @@ use Rattle.std.proofs.Common.{ℕ, List, subst, arith}
 use Rattle.std.specs.Prelude.{◌==◌, ◌&&◌, not}
 use Rattle.std.proofs.lemmas.List.{take_all}
 use Rattle.roam_rules.specs.BookView.{BookView}
-use Rattle.roam_exchange.specs.Rooms.{only_done_due}
+use Rattle.roam_realm.specs.Rooms.{only_done_due}
 use Rattle.roam_core.specs.BrokerView.{states_of}
 use Rattle.roam_conf.specs.Shown.{shown}
 use Rattle.roam_core.specs.ShardRooms.{AreRooms, IsRealmRoom}

@@ -1,4 +1,4 @@
-use Rattle.roam_exchange.proofs.RestLemmas.{access-servers, up-first, without-rest}
+use Rattle.roam_realm.proofs.RestLemmas.{access-servers, up-first, without-rest}
 use Rattle.roam_rules.proofs.laws.silent_servers.Goals as goal
 
 pub returns-clause-none : goal.returns-clause-none

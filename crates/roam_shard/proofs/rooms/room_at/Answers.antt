@@ -1,7 +1,7 @@
 -- A realm that wants a room has it.
 use Rattle.std.proofs.Common.{sym, ◌∙◌}
 use Rattle.roam_pending.specs.Stands.{entries_in}
-use Rattle.roam_exchange.specs.Rooms.{only_done_due}
+use Rattle.roam_realm.specs.Rooms.{only_done_due}
 use Rattle.roam_shard.proofs.RoomLemmas.{room_wanted}
 use Rattle.roam_shard.proofs.rooms.room_at.Goals as goal
 

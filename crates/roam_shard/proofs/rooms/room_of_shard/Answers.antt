@@ -4,7 +4,7 @@ use Rattle.std.proofs.lemmas.List.{length-map}
 use Rattle.roam_conf.specs.Parts.{shown_realm}
 use Rattle.roam_pending.specs.Stands.{entries_in}
 use Rattle.roam_pending.proofs.RealmLemmas.{get-read}
-use Rattle.roam_exchange.specs.Rooms.{only_done_due}
+use Rattle.roam_realm.specs.Rooms.{only_done_due}
 use Rattle.roam_core.specs.ShardRooms.{IsRealmRoom}
 use Rattle.roam_shard.specs.ShardView.{shown_opening, states_in}
 use Rattle.roam_shard.proofs.RoomLemmas.{all-gathered, one-more-gathered, room_seen}

@@ -2,7 +2,7 @@ use Rattle.std.proofs.Common.{◌≡◌, ◌∙◌, Result, Ok, Err, inr, sym}
 use Rattle.std.proofs.lemmas.List.{length-map}
 use Rattle.roam_conf.specs.Shown.{shown}
 use Rattle.roam_core.specs.Shown.{shown_event, shown_events}
-use Rattle.roam_exchange.specs.Turn.{shown_outs}
+use Rattle.roam_realm.specs.Turn.{shown_outs}
 use Rattle.roam_core.specs.Events.{kept}
 use Rattle.roam_sim.proofs.SimulationLemmas.{RunSent, is_simulated, is_simulated_in_part, script_fault, never, untouched}
 use Rattle.roam_sim.proofs.simulation.simulate.Goals as goal

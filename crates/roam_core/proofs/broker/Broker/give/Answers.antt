@@ -7,8 +7,8 @@ use Rattle.roam_admission.specs.Shown.{shown_job}
 use Rattle.roam_admission.proofs.EventLemmas.{event_realm}
 use Rattle.roam_realm.specs.RealmConfig.{RealmConfig, realm_config}
 use Rattle.roam_realm.specs.RealmState.{RealmState}
-use Rattle.roam_exchange.specs.Turn.{Turn}
-use Rattle.roam_exchange.specs.OneRealm.{event_of, on_event}
+use Rattle.roam_realm.specs.Turn.{Turn}
+use Rattle.roam_realm.specs.OneRealm.{event_of, on_event}
 use Rattle.roam_core.specs.ManyRealms.{state_at, turn_of_one}
 use Rattle.roam_core.specs.Steps.{GivesAnswer}
 use Rattle.roam_core.specs.BrokerView.{BrokerView, states_of, IsBookOf}

@@ -4,7 +4,7 @@ use Rattle.std.proofs.Math.ListN.{length-set}
 use Rattle.std.proofs.lemmas.List.{length-map}
 use Rattle.roam_conf.specs.Config.{ConfigView}
 use Rattle.roam_rules.specs.BookView.{BookView}
-use Rattle.roam_exchange.specs.Turn.{sends}
+use Rattle.roam_realm.specs.Turn.{sends}
 use Rattle.roam_core.specs.BrokerView.{BrokerView}
 use Rattle.roam_core.specs.ManyRealms.{state_at, tick_of}
 use Rattle.roam_core.proofs.LettingGoLemmas.{letting_go-end, letting_go-next, letting_go-start, letting_go-turn}

@@ -4,10 +4,10 @@ use Rattle.std.proofs.lemmas.Bool.Decides.{nat_tests}
 use Rattle.std.proofs.lemmas.List.{length-map}
 use Rattle.roam_conf.specs.Shown.{shown}
 use Rattle.roam_rules.specs.BookView.{BookView}
-use Rattle.roam_exchange.specs.OnTick.{on_tick}
+use Rattle.roam_realm.specs.OnTick.{on_tick}
 use Rattle.roam_realm.specs.RealmConfig.{realm_config}
 use Rattle.roam_realm.specs.RealmState.{RealmState}
-use Rattle.roam_exchange.specs.Turn.{sends}
+use Rattle.roam_realm.specs.Turn.{sends}
 use Rattle.roam_core.specs.BrokerView.{BrokerView, states_of}
 use Rattle.roam_core.specs.Events.{is_in_shard}
 use Rattle.roam_core.specs.ManyRealms.{state_at, tick_of}

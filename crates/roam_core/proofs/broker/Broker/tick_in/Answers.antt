@@ -2,7 +2,7 @@
 use Rattle.std.specs.Vec.Iter.{into_iter_items}
 use Rattle.std.proofs.Common.{◌≡◌, ◌++◌, refl, sym, ap, subst, ◌∙◌, arith, length, set}
 use Rattle.roam_conf.specs.Config.{ConfigView}
-use Rattle.roam_exchange.specs.Turn.{packets_of, shown_outs, state_after}
+use Rattle.roam_realm.specs.Turn.{packets_of, shown_outs, state_after}
 use Rattle.roam_core.specs.ManyRealms.{state_at, tick_of}
 use Rattle.roam_core.specs.ShardRooms.{IsRealmRoom, most_of_all, wants_room}
 use Rattle.roam_core.proofs.ShardLemmas.{ticking-start, ticking-next, ticking-turn, ticking-end, nothing-left}

@@ -1,6 +1,6 @@
 use Rattle.std.specs.Vec.Iter.{into_iter_items, into_iter_len}
 use Rattle.std.proofs.Common.{◌≡◌, ◌+◌, ◌≤◌, length, vec_len, vec_capacity}
-use Rattle.roam_exchange.specs.Turn.{shown_outs}
+use Rattle.roam_realm.specs.Turn.{shown_outs}
 use Rattle.roam_core.specs.ShardRooms.{most_of_all}
 use Rattle.roam_core.proofs.ShardLemmas.{IsTicking}
 use Rattle.roam_core.proofs.broker.Broker.tick_in.Given as goal

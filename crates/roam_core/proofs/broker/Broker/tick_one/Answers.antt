@@ -6,8 +6,8 @@ use Rattle.roam_admission.specs.Admission.{PlainOut}
 use Rattle.roam_admission.specs.Shown.{shown_out}
 use Rattle.roam_rules.specs.BookView.{BookView}
 use Rattle.roam_realm.specs.RealmState.{RealmState}
-use Rattle.roam_exchange.specs.Rooms.{IsRoomFor, only_done_due}
-use Rattle.roam_exchange.specs.Turn.{Turn, packets_of, shown_outs, state_after}
+use Rattle.roam_realm.specs.Rooms.{IsRoomFor, only_done_due}
+use Rattle.roam_realm.specs.Turn.{Turn, packets_of, shown_outs, state_after}
 use Rattle.roam_core.specs.BrokerView.{BrokerView, states_of}
 use Rattle.roam_core.specs.Events.{is_in_shard}
 use Rattle.roam_core.specs.ManyRealms.{state_at, tick_of}

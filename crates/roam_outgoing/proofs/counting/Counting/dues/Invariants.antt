@@ -1,6 +1,6 @@
 -- The counts rose by what became of those that were gone through.
 use Rattle.std.proofs.Common.{◌≡◌, take}
-use Rattle.roam_exchange.specs.HappeningsShown.{shown_dues}
+use Rattle.roam_realm.specs.HappeningsShown.{shown_dues}
 use Rattle.roam_counters.specs.OwnCounts.{raised_all}
 use Rattle.roam_outgoing.specs.Counting.{counts_in, dues_counted}
 use Rattle.roam_outgoing.proofs.counting.Counting.dues.Given as goal

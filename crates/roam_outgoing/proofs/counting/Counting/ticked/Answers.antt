@@ -1,6 +1,6 @@
 -- What became of requests was counted, and then which conversations were left.
 use Rattle.std.proofs.Common.{◌∙◌, ap}
-use Rattle.roam_exchange.specs.HappeningsShown.{shown_dues}
+use Rattle.roam_realm.specs.HappeningsShown.{shown_dues}
 use Rattle.roam_counters.specs.OwnCounts.{raised_all}
 use Rattle.roam_outgoing.specs.Counting.{counts_in, dues_counted, left_counted}
 use Rattle.roam_outgoing.proofs.CountingLemmas.{counted-both}

@@ -2,7 +2,7 @@
 use Rattle.std.proofs.Common.{◌∙◌, ap, subst, sym}
 use Rattle.std.specs.Prelude.{option_to_list}
 use Rattle.std.proofs.lemmas.List.{map-append}
-use Rattle.roam_exchange.specs.Turn.{shown_outs}
+use Rattle.roam_realm.specs.Turn.{shown_outs}
 use Rattle.roam_admission.specs.Shown.{shown_out}
 use Rattle.roam_outgoing.specs.Sending.{PutsEach, outbox_in}
 use Rattle.roam_outgoing.proofs.SendingLemmas.{puts_both}

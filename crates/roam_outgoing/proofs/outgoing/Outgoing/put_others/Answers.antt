@@ -2,7 +2,7 @@
 use Rattle.std.specs.Vec.Iter.{into_iter_items}
 use Rattle.std.proofs.Common.{◌≡◌, [], ◌∷◌, ◌++◌, ◌∙◌, ap, append_assoc, arith, length, subst, sym}
 use Rattle.std.proofs.lemmas.List.{map-append}
-use Rattle.roam_exchange.specs.Turn.{shown_outs}
+use Rattle.roam_realm.specs.Turn.{shown_outs}
 use Rattle.roam_admission.specs.Shown.{shown_out}
 use Rattle.roam_outgoing.specs.Sending.{PutsEach, outbox_in}
 use Rattle.roam_outgoing.proofs.SendingLemmas.{all_seen, puts_both, puts_none}

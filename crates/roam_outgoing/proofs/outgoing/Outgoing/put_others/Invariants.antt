@@ -1,6 +1,6 @@
 use Rattle.std.specs.Vec.Iter.{into_iter_items, into_iter_len}
 use Rattle.std.proofs.Common.{◌≡◌, ◌++◌, length}
-use Rattle.roam_exchange.specs.Turn.{shown_outs}
+use Rattle.roam_realm.specs.Turn.{shown_outs}
 use Rattle.roam_outgoing.specs.Sending.{PutsEach, outbox_in}
 use Rattle.roam_outgoing.proofs.outgoing.Outgoing.put_others.Given as goal
 

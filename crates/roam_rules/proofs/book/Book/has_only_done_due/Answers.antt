@@ -1,7 +1,7 @@
 use Rattle.std.proofs.Common.{◌∙◌, List, ap}
 use Rattle.roam_pending.specs.PlainEntry.{PlainEntry}
 use Rattle.roam_rules.specs.BookView.{BookView}
-use Rattle.roam_exchange.specs.Rooms.{only_done_due}
+use Rattle.roam_realm.specs.Rooms.{only_done_due}
 use Rattle.roam_rules.proofs.BookLemmas.{own-entries}
 use Rattle.roam_rules.proofs.book.Book.has_only_done_due.Goals as goal
 

@@ -3,10 +3,10 @@ use Rattle.roam_conf.specs.Shown.{shown}
 use Rattle.roam_pending.specs.PlainEntry.{PlainEntry}
 use Rattle.roam_pending.specs.Realms.{entries_in}
 use Rattle.roam_realm.specs.RealmConfig.{RealmConfig}
-use Rattle.roam_exchange.specs.OnTick.{on_tick}
-use Rattle.roam_exchange.specs.Rooms.{only_done_due}
+use Rattle.roam_realm.specs.OnTick.{on_tick}
+use Rattle.roam_realm.specs.Rooms.{only_done_due}
 use Rattle.roam_realm.specs.Sound.{IsSound}
-use Rattle.roam_exchange.specs.Turn.{sends}
+use Rattle.roam_realm.specs.Turn.{sends}
 use Rattle.roam_rules.proofs.BookLemmas.{held-entries, held-kept, kept-book, realm-becomes}
 use Rattle.roam_rules.proofs.book.Book.let_go.Goals as goal
 

@@ -5,7 +5,7 @@ use Rattle.roam_conf.specs.Shown.{shown}
 use Rattle.roam_admission.specs.Events.{IsEvent}
 use Rattle.roam_admission.specs.declared.job.Side.{Side}
 use Rattle.roam_admission.specs.Shown.{shown_job}
-use Rattle.roam_exchange.specs.OneRealm.{event_by, event_of, on_event}
+use Rattle.roam_realm.specs.OneRealm.{event_by, event_of, on_event}
 use Rattle.roam_wire.specs.Packet.{AreOctets}
 use Rattle.roam_rules.specs.BookView.{IsTakenFrom}
 use Rattle.roam_rules.proofs.JobLemmas.{job_of_book}

@@ -3,7 +3,7 @@ use Rattle.roam_conf.specs.Config.{ConfigView}
 use Rattle.roam_conf.specs.Shown.{shown}
 use Rattle.roam_admission.specs.Events.{IsEvent}
 use Rattle.roam_admission.specs.Shown.{shown_job}
-use Rattle.roam_exchange.specs.OneRealm.{event_of, on_event}
+use Rattle.roam_realm.specs.OneRealm.{event_of, on_event}
 use Rattle.roam_wire.specs.Packet.{AreOctets}
 use Rattle.roam_rules.proofs.JobLemmas.{job_of_book}
 use Rattle.roam_rules.proofs.BookLemmas.{own-succeeds, realm-gives}

@@ -4,8 +4,8 @@ use Rattle.roam_conf.specs.Shown.{shown}
 use Rattle.roam_pending.specs.PlainEntry.{PlainEntry}
 use Rattle.roam_pending.specs.Realms.{entries_in}
 use Rattle.roam_realm.specs.RealmConfig.{RealmConfig}
-use Rattle.roam_exchange.specs.OnTick.{on_tick}
-use Rattle.roam_exchange.specs.Rooms.{IsRoomFor}
+use Rattle.roam_realm.specs.OnTick.{on_tick}
+use Rattle.roam_realm.specs.Rooms.{IsRoomFor}
 use Rattle.roam_realm.specs.Sound.{IsSound}
 use Rattle.roam_rules.proofs.BookLemmas.{held-entries, held-kept, kept-book, realm-gives}
 use Rattle.roam_rules.proofs.book.Book.tick_reserved.Goals as goal

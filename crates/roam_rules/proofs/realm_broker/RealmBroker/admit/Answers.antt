@@ -1,8 +1,8 @@
 -- What the admission does stays where its course is noted.
 use Rattle.std.proofs.Common.{subst, sym}
 use Rattle.roam_realm.specs.RealmState.{RealmState}
-use Rattle.roam_exchange.specs.Shown.{shown_request}
-use Rattle.roam_exchange.specs.Turn.{Answers}
+use Rattle.roam_realm.specs.Shown.{shown_request}
+use Rattle.roam_realm.specs.Turn.{Answers}
 use Rattle.roam_rules.specs.Private.NewEntry.{admits}
 use Rattle.roam_rules.specs.RealmTurn.{state}
 use Rattle.roam_rules.proofs.RealmLemmas.{keeps-both}

@@ -5,11 +5,11 @@ use Rattle.roam_realm.specs.Conversing.{rests_chosen}
 use Rattle.roam_realm.specs.RealmConfig.{RealmConfig, IsLink}
 use Rattle.roam_realm.specs.RealmState.{RealmState, with_rests}
 use Rattle.roam_rules.specs.RealmTurn.{state}
-use Rattle.roam_exchange.specs.Turn.{packets_of, state_after}
+use Rattle.roam_realm.specs.Turn.{packets_of, state_after}
 use Rattle.roam_rules.specs.Private.NewEntry.{IsAdmitPlan, admits, cleared, forwards, straight_to}
-use Rattle.roam_exchange.specs.Happenings.{forwarded}
+use Rattle.roam_realm.specs.Happenings.{forwarded}
 use Rattle.roam_realm.specs.Sound.{lane_of}
-use Rattle.roam_exchange.specs.Shown.{shown_request}
+use Rattle.roam_realm.specs.Shown.{shown_request}
 use Rattle.roam_realm.proofs.LinkLaneLemmas.{made-same}
 use Rattle.roam_rules.proofs.RealmLemmas.{keeps-both}
 use Rattle.roam_rules.proofs.AdmitPlanLemmas.{plan-chosen}

@@ -1,21 +1,21 @@
 use Rattle.std.proofs.Common.{◌≡◌, ◌++◌, List, None, Some, ap, is_some, sym, ◌∙◌, subst, ◌+◌}
 use Rattle.std.proofs.lemmas.List.{append-nil}
 use Rattle.roam_conf.specs.declared.exchange_lines.ExchangeLines.{ExchangeLines}
-use Rattle.roam_exchange.specs.Happenings.{PlainDue, due_of, due_with, keeps_given_up}
-use Rattle.roam_exchange.specs.Dues.{noted_of}
-use Rattle.roam_exchange.proofs.MemoryLemmas.{fewer-dues}
+use Rattle.roam_realm.specs.Happenings.{PlainDue, due_of, due_with, keeps_given_up}
+use Rattle.roam_realm.specs.Dues.{noted_of}
+use Rattle.roam_realm.proofs.MemoryLemmas.{fewer-dues}
 use Rattle.roam_pending.specs.PlainEntry.{PlainEntry}
 use Rattle.roam_pending.specs.EntryList.{IsEntryList, find_ticket}
 use Rattle.roam_pending.specs.Realms.{RealmBecomes}
 use Rattle.roam_pending.specs.Shown.{shown}
 use Rattle.roam_admission.specs.Admission.{PlainOut}
 use Rattle.roam_rules.specs.RealmTurn.{entries, state}
-use Rattle.roam_exchange.specs.OnTick.{Progress, due_standing, due_one}
-use Rattle.roam_exchange.specs.Memory.{AreDues, IsOuts}
+use Rattle.roam_realm.specs.OnTick.{Progress, due_standing, due_one}
+use Rattle.roam_realm.specs.Memory.{AreDues, IsOuts}
 use Rattle.roam_realm.specs.Sound.{IsSound, state_of}
-use Rattle.roam_exchange.specs.DueActions.{IsDueAction, action_entries}
+use Rattle.roam_realm.specs.DueActions.{IsDueAction, action_entries}
 use Rattle.roam_realm.proofs.SoundLemmas.{kept-ticket}
-use Rattle.roam_exchange.proofs.ActionListLemmas.{list-after, size-after}
+use Rattle.roam_realm.proofs.ActionListLemmas.{list-after, size-after}
 use Rattle.roam_rules.proofs.TickLemmas.{due_one-found, own-ticket, becomes-found}
 use Rattle.roam_rules.proofs.realm_broker.RealmBroker.due_one.Goals as goal
 

@@ -4,9 +4,9 @@ use Rattle.roam_pending.specs.EntryList.{IsNew, put}
 use Rattle.roam_pending.proofs.OrderLemmas.{list-new}
 use Rattle.roam_realm.specs.RealmState.{Target}
 use Rattle.roam_rules.specs.RealmTurn.{entries}
-use Rattle.roam_exchange.specs.OnRequest.{forwarded_entry}
+use Rattle.roam_realm.specs.OnRequest.{forwarded_entry}
 use Rattle.roam_realm.specs.Rests.{signs_of}
-use Rattle.roam_exchange.specs.Shown.{shown_request}
+use Rattle.roam_realm.specs.Shown.{shown_request}
 use Rattle.roam_rules.proofs.AdmissionLemmas.{entry-is, new-sound, waits-well}
 use Rattle.roam_realm.proofs.LaneLemmas.{next-tells}
 use Rattle.roam_realm.proofs.SoundLemmas.{unheld-ticket}

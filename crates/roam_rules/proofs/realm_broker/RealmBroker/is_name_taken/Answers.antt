@@ -8,8 +8,8 @@ use Rattle.roam_rules.specs.Private.NewEntry.{once_replaced}
 use Rattle.roam_rules.specs.Private.Sharing.{is_sharer}
 use Rattle.roam_realm.specs.RealmConfig.{service_of}
 use Rattle.roam_rules.specs.RealmTurn.{entries}
-use Rattle.roam_exchange.specs.Shares.{name_part, same_part, shares, waits_for}
-use Rattle.roam_exchange.specs.Shown.{shown_request}
+use Rattle.roam_realm.specs.Shares.{name_part, same_part, shares, waits_for}
+use Rattle.roam_realm.specs.Shown.{shown_request}
 use Rattle.roam_rules.specs.declared.rules.share.Sharer.TheVariants as sharer
 use Rattle.roam_rules.proofs.SharingLemmas.{counted-is}
 use Rattle.roam_rules.proofs.realm_broker.RealmBroker.is_name_taken.Goals as goal

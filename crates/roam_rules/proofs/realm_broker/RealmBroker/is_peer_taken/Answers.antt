@@ -5,8 +5,8 @@ use Rattle.roam_pending.specs.EntryList.{besides}
 use Rattle.roam_rules.specs.Private.NewEntry.{once_replaced}
 use Rattle.roam_rules.specs.Private.Sharing.{is_sharer}
 use Rattle.roam_rules.specs.RealmTurn.{entries}
-use Rattle.roam_exchange.specs.Shares.{of_peer, same_peer, waits_for}
-use Rattle.roam_exchange.specs.Shown.{shown_request}
+use Rattle.roam_realm.specs.Shares.{of_peer, same_peer, waits_for}
+use Rattle.roam_realm.specs.Shown.{shown_request}
 use Rattle.roam_rules.specs.declared.rules.share.Sharer.TheVariants as sharer
 use Rattle.roam_realm.specs.declared.service.Service.TheVariants as service
 use Rattle.roam_rules.proofs.SharingLemmas.{both-services, counted-is}

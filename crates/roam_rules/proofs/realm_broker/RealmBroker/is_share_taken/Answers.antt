@@ -2,7 +2,7 @@ use Rattle.std.proofs.Common.{◌≡◌, ◌∙◌, true, ap, sym, refl}
 use Rattle.roam_wire.specs.Codes.{is_reverse_request}
 use Rattle.roam_wire.specs.Packet.{Packet}
 use Rattle.roam_wire.specs.Reading.{packet_of}
-use Rattle.roam_exchange.specs.Shown.{shown_request}
+use Rattle.roam_realm.specs.Shown.{shown_request}
 use Rattle.roam_rules.proofs.realm_broker.RealmBroker.is_share_taken.Goals as goal
 
 -- a reverse request has no share

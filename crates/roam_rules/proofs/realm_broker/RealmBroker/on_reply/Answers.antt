@@ -1,5 +1,5 @@
-use Rattle.roam_exchange.specs.Happenings.{reply_happening}
-use Rattle.roam_exchange.specs.OnReply.{on_reply}
+use Rattle.roam_realm.specs.Happenings.{reply_happening}
+use Rattle.roam_realm.specs.OnReply.{on_reply}
 use Rattle.roam_rules.proofs.TurnLemmas.{not-ok, turns-lost, turns-settled}
 use Rattle.roam_rules.proofs.realm_broker.RealmBroker.on_reply.Goals as goal
 

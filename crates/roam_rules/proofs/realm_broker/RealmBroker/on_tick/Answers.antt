@@ -3,9 +3,9 @@ use Rattle.std.specs.Vec.Iter.{into_iter_items}
 use Rattle.std.proofs.lemmas.Bool.Decides.{nat_tests}
 use Rattle.roam_wire.specs.declared.refusal.Refusal.TheVariants as refusal
 use Rattle.roam_realm.specs.RealmConfig.{RealmConfig}
-use Rattle.roam_exchange.specs.Happenings.{keeps_given_up}
+use Rattle.roam_realm.specs.Happenings.{keeps_given_up}
 use Rattle.roam_rules.specs.RealmTurn.{state}
-use Rattle.roam_exchange.proofs.MemoryLemmas.{refused-turned}
+use Rattle.roam_realm.proofs.MemoryLemmas.{refused-turned}
 use Rattle.roam_rules.proofs.RealmLemmas.{keeps-both, keeps-none}
 use Rattle.roam_rules.proofs.TickLemmas.{IsStep, first-buffers, first-place, first-request, many-due, no-outs, none-due, nothing-left, own-room, ticking-start, ticking-turn, ticking-end}
 use Rattle.roam_rules.proofs.realm_broker.RealmBroker.on_tick.Goals as goal

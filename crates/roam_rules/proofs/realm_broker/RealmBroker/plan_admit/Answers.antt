@@ -2,7 +2,7 @@ use Rattle.std.proofs.Common.{List, ap, is_some, sym, ◌∙◌}
 use Rattle.roam_conf.specs.declared.place.Link.{Link}
 use Rattle.roam_rules.specs.RealmTurn.{entries, state}
 use Rattle.roam_rules.specs.Private.NewEntry.{bound_way, once_replaced, way_link}
-use Rattle.roam_exchange.specs.Shown.{shown_request}
+use Rattle.roam_realm.specs.Shown.{shown_request}
 use Rattle.roam_rules.proofs.RequestLemmas.{at-none, at-open, link-open, share-refused}
 use Rattle.roam_rules.proofs.AdmitPlanLemmas.{by-target, chosen-same, straight-plan}
 use Rattle.roam_rules.proofs.realm_broker.RealmBroker.plan_admit.Goals as goal

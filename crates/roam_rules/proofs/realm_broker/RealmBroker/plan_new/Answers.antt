@@ -1,6 +1,6 @@
 use Rattle.std.proofs.Common.{refl}
 use Rattle.roam_rules.specs.RealmTurn.{state}
-use Rattle.roam_exchange.specs.Shown.{shown_request}
+use Rattle.roam_realm.specs.Shown.{shown_request}
 use Rattle.roam_rules.proofs.AdmitPlanLemmas.{admitted-plan, refusal-plan}
 use Rattle.roam_rules.proofs.realm_broker.RealmBroker.plan_new.Goals as goal
 

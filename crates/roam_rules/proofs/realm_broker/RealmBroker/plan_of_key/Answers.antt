@@ -5,7 +5,7 @@ use Rattle.roam_pending.specs.EntryList.{find_client}
 use Rattle.roam_pending.specs.Shown.{shown}
 use Rattle.roam_pending.proofs.ClientLemmas.{without_client-absent}
 use Rattle.roam_rules.specs.RealmTurn.{entries, state}
-use Rattle.roam_exchange.specs.Shown.{shown_request}
+use Rattle.roam_realm.specs.Shown.{shown_request}
 use Rattle.roam_rules.proofs.RequestLemmas.{found-replaced, key-free, key-replaced, of-key-same, rest-of}
 use Rattle.roam_rules.proofs.AdmitPlanLemmas.{held-plan}
 use Rattle.roam_rules.proofs.realm_broker.RealmBroker.plan_of_key.Goals as goal

@@ -4,8 +4,8 @@ use Rattle.roam_pending.specs.EntryList.{find_link}
 use Rattle.roam_pending.specs.Shown.{shown}
 use Rattle.roam_pending.proofs.ChangeLemmas.{find-passes, found-is}
 use Rattle.roam_rules.specs.RealmTurn.{entries, state}
-use Rattle.roam_exchange.specs.OnReply.{to_entry}
-use Rattle.roam_exchange.specs.Turn.{Turn}
+use Rattle.roam_realm.specs.OnReply.{to_entry}
+use Rattle.roam_realm.specs.Turn.{Turn}
 use Rattle.roam_realm.proofs.SoundLemmas.{kept-link}
 use Rattle.roam_rules.proofs.ReplyLemmas.{link-of, plan-none, plan-some}
 use Rattle.roam_rules.proofs.realm_broker.RealmBroker.reply_to_entry.Goals as goal

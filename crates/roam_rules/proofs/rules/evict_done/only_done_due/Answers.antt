@@ -1,5 +1,5 @@
 use Rattle.std.proofs.Common.{◌≡◌, true, false, ap, sym, ◌∙◌}
-use Rattle.roam_exchange.specs.Rooms.{done_or_gone, is_done_at}
+use Rattle.roam_realm.specs.Rooms.{done_or_gone, is_done_at}
 use Rattle.roam_rules.proofs.LettingGoLemmas.{all-read, fewer-left, more-read, none-read, one-waits}
 use Rattle.roam_rules.proofs.rules.evict_done.only_done_due.Goals as goal
 

@@ -1,5 +1,5 @@
-use Rattle.roam_exchange.specs.Shown.{shown_request}
-use Rattle.roam_exchange.proofs.NakLemmas.{refused-fits}
+use Rattle.roam_realm.specs.Shown.{shown_request}
+use Rattle.roam_realm.proofs.NakLemmas.{refused-fits}
 use Rattle.roam_rules.proofs.rules.requests.refused_by_nak.Goals as goal
 
 -- the NAK fits into a packet

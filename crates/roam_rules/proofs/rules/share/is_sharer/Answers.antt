@@ -2,7 +2,7 @@ use Rattle.std.proofs.Common.{◌≡◌, ◌∙◌, Option, List, ℕ, option_ma
 use Rattle.roam_pending.specs.PlainEntry.{PlainEntry}
 use Rattle.roam_pending.specs.Shown.{shown}
 use Rattle.roam_rules.specs.Private.Sharing.{is_sharer}
-use Rattle.roam_exchange.specs.Shares.{name_part, same_part}
+use Rattle.roam_realm.specs.Shares.{name_part, same_part}
 use Rattle.roam_rules.specs.declared.rules.share.Sharer.{Sharer}
 use Rattle.roam_rules.proofs.rules.share.is_sharer.Goals as goal
 

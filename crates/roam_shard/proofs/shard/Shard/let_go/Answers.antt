@@ -1,7 +1,7 @@
 -- Each realm has its part in its turn.
 use Rattle.std.proofs.Common.{◌≡◌, ◌<◌, ◌∙◌, [], ap, arith, length, refl, subst}
 use Rattle.std.proofs.Math.ListN.{length-set}
-use Rattle.roam_exchange.specs.Turn.{sends}
+use Rattle.roam_realm.specs.Turn.{sends}
 use Rattle.roam_core.specs.ManyRealms.{state_at, tick_of}
 use Rattle.roam_shard.specs.ShardView.{OpeningView, shown_opening}
 use Rattle.roam_core.proofs.LettingGoLemmas.{letting_go-end, letting_go-next, letting_go-start, letting_go-turn}

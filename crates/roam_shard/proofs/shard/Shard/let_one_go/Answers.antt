@@ -4,7 +4,7 @@ use Rattle.std.proofs.lemmas.List.{length-map, set-get_or}
 use Rattle.roam_conf.specs.Parts.{shown_realm}
 use Rattle.roam_pending.specs.PlainEntry.{PlainEntry}
 use Rattle.roam_pending.proofs.RealmLemmas.{get-read}
-use Rattle.roam_exchange.specs.Rooms.{only_done_due}
+use Rattle.roam_realm.specs.Rooms.{only_done_due}
 use Rattle.roam_core.specs.Events.{is_in_shard}
 use Rattle.roam_core.specs.ManyRealms.{no_state}
 use Rattle.roam_shard.specs.ShardView.{ShardView, shown_opening}

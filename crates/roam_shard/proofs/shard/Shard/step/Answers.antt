@@ -9,10 +9,10 @@ use Rattle.roam_admission.specs.Shown.{shown_job}
 use Rattle.roam_admission.proofs.EventLemmas.{event_realm}
 use Rattle.roam_pending.proofs.RealmLemmas.{get-read}
 use Rattle.roam_wire.specs.Packet.{AreOctets}
-use Rattle.roam_exchange.specs.Happenings.{event_happening}
-use Rattle.roam_exchange.specs.OneRealm.{event_of, on_event}
+use Rattle.roam_realm.specs.Happenings.{event_happening}
+use Rattle.roam_realm.specs.OneRealm.{event_of, on_event}
 use Rattle.roam_realm.specs.RealmConfig.{realm_config}
-use Rattle.roam_exchange.specs.Turn.{Turn, packets_of}
+use Rattle.roam_realm.specs.Turn.{Turn, packets_of}
 use Rattle.roam_rules.proofs.JobLemmas.{job_of_book}
 use Rattle.roam_core.specs.Events.{is_in_shard}
 use Rattle.roam_shard.specs.ShardView.{ShardView, shown_opening}

@@ -2,8 +2,8 @@
 use Rattle.std.proofs.Common.{◌≡◌, ◌<◌, ◌≤◌, ◌^◌, [], true, false, ap, sym, subst, ◌∙◌, arith, length, refl}
 use Rattle.std.proofs.lemmas.List.{length-map}
 use Rattle.roam_conf.specs.Parts.{shown_realm}
-use Rattle.roam_exchange.specs.HappeningsShown.{shown_dues}
-use Rattle.roam_exchange.specs.Turn.{shown_outs}
+use Rattle.roam_realm.specs.HappeningsShown.{shown_dues}
+use Rattle.roam_realm.specs.Turn.{shown_outs}
 use Rattle.roam_core.specs.HappeningsTo.{dues_from}
 use Rattle.roam_core.specs.ManyRealms.{AllRealms, tick_from}
 use Rattle.roam_core.specs.ShardRooms.{AreRooms, only_done_from}

@@ -1,9 +1,9 @@
 -- The loop over the rooms: each realm has its part in its turn.
 use Rattle.std.specs.Vec.Iter.{into_iter_items}
 use Rattle.std.proofs.Common.{◌≡◌, ◌++◌, List, refl, sym, ap, subst, ◌∙◌, arith, length, set}
-use Rattle.roam_exchange.specs.Happenings.{PlainDue, ticked}
-use Rattle.roam_exchange.specs.HappeningsShown.{shown_dues}
-use Rattle.roam_exchange.specs.Turn.{packets_of, shown_outs, state_after}
+use Rattle.roam_realm.specs.Happenings.{PlainDue, ticked}
+use Rattle.roam_realm.specs.HappeningsShown.{shown_dues}
+use Rattle.roam_realm.specs.Turn.{packets_of, shown_outs, state_after}
 use Rattle.roam_core.specs.HappeningsTo.{dues_at}
 use Rattle.roam_core.specs.ManyRealms.{state_at, tick_of}
 use Rattle.roam_core.specs.ShardRooms.{IsRealmRoom, most_of_all, wants_room}

@@ -1,8 +1,8 @@
 use Rattle.std.specs.Vec.Iter.{into_iter_items, into_iter_len}
 use Rattle.std.proofs.Common.{◌≡◌, ◌+◌, length}
 use Rattle.roam_conf.specs.declared.exchange_lines.ExchangeLines.{ExchangeLines}
-use Rattle.roam_exchange.specs.HappeningsShown.{shown_dues}
-use Rattle.roam_exchange.specs.Turn.{shown_outs}
+use Rattle.roam_realm.specs.HappeningsShown.{shown_dues}
+use Rattle.roam_realm.specs.Turn.{shown_outs}
 use Rattle.roam_core.proofs.ShardLemmas.{IsTicking}
 use Rattle.roam_shard.specs.Private.Rooms.{AllForLines}
 use Rattle.roam_shard.proofs.TickLemmas.{AreLeft, IsTelling}

@@ -4,11 +4,11 @@ use Rattle.std.proofs.lemmas.List.{append-nil, map-append}
 use Rattle.roam_admission.specs.Admission.{PlainOut}
 use Rattle.roam_admission.specs.Shown.{shown_out}
 use Rattle.roam_conf.specs.declared.exchange_lines.ExchangeLines.{ExchangeLines}
-use Rattle.roam_exchange.specs.Happenings.{PlainDue, tick_happening}
-use Rattle.roam_exchange.specs.HappeningsShown.{shown_dues}
+use Rattle.roam_realm.specs.Happenings.{PlainDue, tick_happening}
+use Rattle.roam_realm.specs.HappeningsShown.{shown_dues}
 use Rattle.roam_realm.specs.RealmConfig.{realm_config}
-use Rattle.roam_exchange.specs.Rooms.{only_done_due}
-use Rattle.roam_exchange.specs.Turn.{Turn, packets_of, shown_outs, state_after}
+use Rattle.roam_realm.specs.Rooms.{only_done_due}
+use Rattle.roam_realm.specs.Turn.{Turn, packets_of, shown_outs, state_after}
 use Rattle.roam_core.specs.Events.{is_in_shard}
 use Rattle.roam_core.specs.HappeningsTo.{dues_told}
 use Rattle.roam_core.specs.ManyRealms.{state_at}

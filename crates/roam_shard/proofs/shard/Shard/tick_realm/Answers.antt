@@ -4,7 +4,7 @@ use Rattle.std.proofs.lemmas.List.{length-map}
 use Rattle.roam_conf.specs.Parts.{shown_realm}
 use Rattle.roam_pending.specs.PlainEntry.{PlainEntry}
 use Rattle.roam_pending.proofs.RealmLemmas.{get-read}
-use Rattle.roam_exchange.specs.Rooms.{IsRoomFor}
+use Rattle.roam_realm.specs.Rooms.{IsRoomFor}
 use Rattle.roam_core.specs.Events.{is_in_shard}
 use Rattle.roam_shard.specs.ShardView.{ShardView, shown_opening}
 use Rattle.roam_shard.proofs.ShardLemmas.{numbers_there, realm_entries, realm_kept, realm_list, realm_sound, shard_count, shard_written, ticks_seen}

@@ -1,7 +1,7 @@
 -- A job was taken, or the call for it failed.
 use Rattle.std.proofs.Common.{◌∙◌, ℕ, ap}
 use Rattle.roam_counters.specs.OwnCounts.{CountsView, raised_all}
-use Rattle.roam_exchange.specs.HappeningsShown.{shown_happening}
+use Rattle.roam_realm.specs.HappeningsShown.{shown_happening}
 use Rattle.roam_counters.specs.Arrivals.{failed_increments}
 use Rattle.roam_counters.specs.Increments.{job_increments}
 use Rattle.roam_admission.specs.Shown.{shown_job}

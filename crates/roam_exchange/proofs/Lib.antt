@@ -1,9 +1,0 @@
-pub mod ActionListLemmas
-pub mod BecameLemmas
-pub mod DueActionLemmas
-pub mod MemoryLemmas
-pub mod NakLemmas
-pub mod OutcomeLemmas
-pub mod RestLemmas
-pub mod RoomLemmas
-pub mod SendingLemmas
