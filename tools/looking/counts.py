@@ -57,8 +57,8 @@ COUNTS = {
 
 
 CONSTANTS = {
-    r"notices, a queue of ([\d,]+) for each": ("roam_logger/src/notices.rt", "NOTICES"),
-    r"through a\s+queue of ([\d,]+) for each thread": ("roam_logger/src/exchanges.rt", "LINES"),
+    r"notices, a queue of ([\d,]+) for each": ("roam_outgoing/src/notices.rt", "NOTICES"),
+    r"through a\s+queue of ([\d,]+) for each thread": ("roam_outgoing/src/exchanges.rt", "LINES"),
     r"up to (\d+) datagrams of one\b|at most (\d+) datagrams of a socket": ("roam_workers/src/worker.rt", "IN_A_ROUND"),
     r"more than (\d+) entries are due|about (\d+) entries\b": ("roam_history/src/moment.rt", "MOST"),
     r"go back,\s+by (\d+) ms at most|moves them, by (\d+) ms at most": ("roam_history/src/moment.rt", "LATE"),

@@ -16,9 +16,8 @@ use roam_admin::{Course, Desk, FileOrder, Order, Reply, done, grace, plain_reply
 use roam_counters::Process;
 use roam_history::{Opened, Seat};
 use roam_log::ReloadEnd;
-use roam_logger::tell_reload;
 use roam_metrics::{StatusForm, page, status};
-use roam_outgoing::ThreadCounts;
+use roam_outgoing::{ThreadCounts, tell_reload};
 use roam_system::{BoundSocket, now};
 use roam_workers::{HubCalls, Shared};
 use std::alloc::{AllocError, Global};

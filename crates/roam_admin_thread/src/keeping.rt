@@ -8,7 +8,7 @@ use crate::saving::ledgers_of;
 use crate::source::{Keeping, Source};
 use log::Log;
 use roam_history::Opened;
-use roam_logger::tell_not_kept;
+use roam_outgoing::tell_not_kept;
 use roam_system::now;
 use roam_workers::HubCalls;
 use std::sync::Wait;

@@ -15,8 +15,7 @@ use log::Log;
 use roam_admin::{Course, Reply, plain_reply};
 use roam_conf::Config;
 use roam_history::{Blanks, Opened};
-use roam_logger::{Notice, tell_or_drop};
-use roam_outgoing::Counters;
+use roam_outgoing::{Counters, Notice, tell_or_drop};
 use roam_system::{
     BoundSocket, RECEIVE_BUFFER, ServeFault, bind_following, descriptors_wanted, open_beside, widen,
 };

@@ -8,7 +8,7 @@ use roam_admin::{Course, Reply};
 use roam_admin_thread::{Attendant, Handover, HubEnd, Source};
 use roam_hub::Opened;
 use roam_log::ReloadEnd;
-use roam_logger::{log_notices, serving, tell_or_drop, tell_reload};
+use roam_outgoing::{log_notices, serving, tell_or_drop, tell_reload};
 use roam_system::{ServeFault, now};
 use roam_workers::{HubCalls, Shared, Worker, WorkerEnd, receive_on, tick_on};
 use std::alloc::Global;

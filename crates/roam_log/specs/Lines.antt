@@ -92,7 +92,7 @@ count_text count = if count == 1 then [] else (codes " (" ++ decimal count ++ co
 -- Rules out: a line that a packet's octets forge; the name of another peer than the source's
 -- Stands in: `roam_log` `Lines.antt`: `refused_text`; `Hints.antt`: `hint_text`, `clue_text`; `Clues.antt`:
 -- `IsShown`; `Senders.antt`: `who_sent`; `RefusedText::new`, what its `Display` writes;
--- `roam_logger` `Origins.antt`: `origin_of`
+-- `roam_outgoing` `Origins.antt`: `origin_of`
 --
 -- the line, where this is shown of the realm that is asked for
 abbrev pub refused_text : RefusalCount → List ℕ → Sender → List ℕ → List ℕ

@@ -1,2 +1,4 @@
 pub mod CountingLemmas
 pub mod SendingLemmas
+pub mod BadAttributeLemmas
+pub mod SaidLemmas

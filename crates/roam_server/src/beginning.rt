@@ -15,7 +15,7 @@ use log::Log;
 use roam_admin_thread::{Configured, Source};
 use roam_conf::Config;
 use roam_epoch::ServerParts;
-use roam_logger::{tell_left_out, tell_taken_up, tell_unread};
+use roam_outgoing::{tell_left_out, tell_taken_up, tell_unread};
 use roam_realm::Start;
 use roam_sessions::{Item, ReadError, read};
 use roam_shard::{Paused, Shard, first_starts};

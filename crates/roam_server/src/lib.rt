@@ -1,7 +1,7 @@
 //! The server: its start, one epoch after the other, and its end.
 //!
 //! Begin with `serve`. A worker for each shard, a timer and a logger serve a configuration (`roam_workers`,
-//! `roam_logger`), and what they do is counted and told. One configuration is served (`roam_epoch`) after the other,
+//! `roam_outgoing`), and what they do is counted and told. One configuration is served (`roam_epoch`) after the other,
 //! each over the shards of the one before it. There is one hub for each: it is closed and audited at that one's end,
 //! and the hub of the next one goes on with its shards. What can't be started is tried again, and who asks meanwhile
 //! is told so. Beside them are threads that outlast each configuration (`start_behind`): one frees stored steps, and

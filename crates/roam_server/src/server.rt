@@ -14,8 +14,7 @@ use roam_admin_thread::{
 };
 use roam_conf::{Config, ExchangeLines};
 use roam_epoch::{Means, ServerParts};
-use roam_logger::{Notice, tell_or_drop};
-use roam_outgoing::{CAUSES, Counters, OldHistory, SharedLosses};
+use roam_outgoing::{CAUSES, Counters, Notice, OldHistory, SharedLosses, tell_or_drop};
 use roam_port::socket_numbers;
 use roam_system::{BoundSocket, ServeFault, bind_all, descriptors_wanted, listen_at, reason_of};
 use roam_workers::Rests;

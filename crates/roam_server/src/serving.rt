@@ -17,7 +17,7 @@ use log::Log;
 use roam_admin_thread::{Configured, FreshMeans, Handover, HubEnd, Source};
 use roam_epoch::{Means, Served, ServerParts, Unserved, serve_over};
 use roam_hub::Blanks;
-use roam_logger::{Notice, tell_or_drop};
+use roam_outgoing::{Notice, tell_or_drop};
 use roam_port::Outbox;
 use roam_shard::Paused;
 use roam_system::ServeFault;

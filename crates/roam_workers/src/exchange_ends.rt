@@ -10,7 +10,7 @@ use roam_admission::{Datagram, LocalAnswer, RejectCause};
 use roam_counters::Process;
 use roam_history::{Answered, Became, Happening, LeftConversation, Opened, Waited};
 use roam_log::{EndedWith, Exchange, ExchangeEnd};
-use roam_logger::{local_reject_of, local_response_of, nak_of};
+use roam_outgoing::{local_reject_of, local_response_of, nak_of};
 use std::alloc::Global;
 use std::sync::Wait;
 

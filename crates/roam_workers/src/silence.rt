@@ -10,7 +10,7 @@ use crate::shared::Shared;
 use roam_conf::{Link, Realm};
 use roam_history::{Opened, SERVER_LINKS, Seat};
 use roam_log::Silence;
-use roam_logger::Answering;
+use roam_outgoing::Answering;
 use std::alloc::Global;
 use std::sync::Wait;
 

@@ -1,2 +1,0 @@
-pub mod BadAttributeLemmas
-pub mod SaidLemmas
