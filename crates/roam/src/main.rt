@@ -7,7 +7,7 @@
 use log::Log;
 use roam_cli::Fault;
 use roam_program::command;
-use roam_stream_server::{ask_for_streams, stream_command};
+use roam_streams::{ask_for_streams, stream_command};
 use roam_system::{
     Keeper, KeepsFiles, LogReader, Outlet, OutletWriter, ToOutlet, keep_on, log_reader, write_on,
 };

@@ -5,3 +5,7 @@ pub mod Waits
 pub mod Requests
 pub mod Dialing
 pub mod Laws
+pub mod Names
+pub mod Ends
+pub mod AskedStreams
+pub mod StreamWords

@@ -1,10 +1,10 @@
 //! A connection that was dialed toward a home server.
 
+use crate::dialed_stream::DialedStream;
 use crate::readiness::{Readiness, outcome};
 use crate::shared::Shared;
 use crate::why::Why;
 use mio::net::TcpStream;
-use roam_streams::DialedStream;
 use std::alloc::Global;
 use std::io::{Read, Write};
 

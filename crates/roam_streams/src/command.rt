@@ -2,14 +2,14 @@
 
 ghost use Rattle.std.specs.Prelude.{◌≡◌, ◌≤◌, OnOk, IfErr};
 ghost use Rattle.std.specs.Io.KnownBytes.{Appends};
-ghost use Rattle.roam_stream_server.specs.StreamWords.{summary_of};
+ghost use Rattle.roam_streams.specs.StreamWords.{summary_of};
 
+use crate::stream_config::StreamConfig;
 use crate::stream_words::StreamCommand;
 use crate::{read_streams, stream};
 use log::Log;
 use roam_cli::{Fault, TextFile, finish};
 use roam_diagnosis::{Lines, diagnose_streams};
-use roam_streams::StreamConfig;
 use std::alloc::Global;
 use std::convert::AsStr;
 use std::io::Write;

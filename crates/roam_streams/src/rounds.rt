@@ -3,14 +3,15 @@
 use crate::at_socket::{AtSocket, Source};
 use crate::pair::Pair;
 use crate::readiness::is_for_later;
+use crate::redial::Redial;
 use crate::shared::DATAGRAMS_AT_ONCE;
+use crate::stream_fault::StreamFault;
 use crate::stream_loop::{Staying, StreamLoop, list};
 use crate::system::System;
 use crate::taken::endpoint_of;
 use crate::tokens::{SocketKind, SocketName};
 use crate::why::Why;
 use log::Log;
-use roam_streams::{Redial, StreamFault};
 use std::net::{Net, SocketAddr};
 
 impl StreamLoop {

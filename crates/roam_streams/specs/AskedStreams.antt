@@ -21,7 +21,7 @@ is_local endpoint = begins_with_127 (ipv4_octets_in (ip_of endpoint.ip))
 -- ranges.
 -- Source: ours; the secret is that of RFC 6614 section 2.3
 -- Rules out: a stream in clear that leaves the machine
--- Stands in: `roam_stream_server` `Streams.antt`: `IsAsked`, `IsServer`; `read_streams`, `server_from`
+-- Stands in: `roam_streams` `AskedStreams.antt`: `IsAsked`, `IsServer`; `read_streams`, `server_from`
 --
 -- so many endpoints, all of 127.0.0.0/8
 abbrev pub AreLocal : ℕ → ℕ → List Endpoint → Type 0

@@ -1,12 +1,14 @@
 //! A connection that was taken, and its socket toward the broker.
 
+use crate::identifier_waits::Way;
 use crate::readiness::{Readiness, outcome};
 use crate::shared::{DATAGRAMS_AT_ONCE, Shared};
+use crate::stream_fault::StreamFault;
+use crate::taken_stream::{Next, TakenStream};
 use crate::why::Why;
 use log::Log;
 use mio::net::{TcpStream, UdpSocket};
 use roam_address::{Address, Endpoint};
-use roam_streams::{Next, StreamFault, TakenStream, Way};
 use std::alloc::Global;
 use std::io::{Read, Write};
 use std::net::SocketAddr;

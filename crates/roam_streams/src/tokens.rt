@@ -1,7 +1,7 @@
 //! The socket that a word of readiness is of.
 
 ghost use Rattle.std.specs.Prelude.{◌≡◌, ◌<◌, ◌+◌, ◌*◌, ◌/◌, ◌%◌, ◌^◌, min};
-ghost use Rattle.roam_stream_server.specs.Names.{number_of};
+ghost use Rattle.roam_streams.specs.Names.{number_of};
 
 use mio::Token;
 

@@ -2,15 +2,16 @@
 
 use crate::readiness::{Readiness, is_for_later};
 use crate::shared::Shared;
+use crate::stream_fault::StreamFault;
 use crate::stream_loop::StreamLoop;
 use crate::system::{System, bind_datagrams, is_want};
 use crate::taken::{Taken, endpoint_of};
+use crate::taken_stream::TakenStream;
 use crate::tokens::{SocketKind, SocketName};
 use log::Log;
 use mio::Interest;
 use mio::net::{TcpListener, TcpStream, UdpSocket};
 use roam_address::{Address, Endpoint};
-use roam_streams::{StreamFault, TakenStream};
 use std::io;
 use std::net::{Net, SocketAddr};
 

@@ -1,14 +1,14 @@
 //! The configuration of `roam streams`, read from the text of a TOML document.
 
 ghost use Rattle.std.specs.Prelude.{◌≤◌, IfOk};
-ghost use Rattle.roam_stream_server.specs.Streams.{IsAsked, IsServer};
+ghost use Rattle.roam_streams.specs.AskedStreams.{IsAsked, IsServer};
 
 use crate::endpoints::{endpoint_at, locals_at, number_at};
 use crate::keys::{has_only_server_keys, has_only_top_keys};
 use crate::missing::misses_some;
+use crate::stream_config::{BrokerEndpoints, StreamConfig, StreamServer};
 use crate::twice::some_stand_twice;
 use roam_conf_reader::ConfFault;
-use roam_streams::{BrokerEndpoints, StreamConfig, StreamServer};
 use std::alloc::Global;
 use toml::value::Array;
 use toml::{Table, Value};

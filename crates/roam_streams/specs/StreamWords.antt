@@ -3,8 +3,8 @@ use Rattle.std.specs.Prelude.{◌≡◌, ℕ, List, [], ◌∷◌, ◌++◌, cod
 use Rattle.std.specs.Fmt.{decimal}
 use Rattle.roam_address.specs.Decimals.{decimal_in}
 use Rattle.roam_streams.specs.declared.stream_config.StreamConfig.{StreamConfig}
-use Rattle.roam_stream_server.specs.declared.stream_words.StreamCommand.{StreamCommand}
-use Rattle.roam_stream_server.specs.declared.stream_words.StreamCommand.TheVariants as command
+use Rattle.roam_streams.specs.declared.stream_words.StreamCommand.{StreamCommand}
+use Rattle.roam_streams.specs.declared.stream_words.StreamCommand.TheVariants as command
 
 -- to take and dial connections by a file, for so many milliseconds or without end; or to say how much there is in it
 pub data AskedOfStreams : Type 0 where
@@ -20,7 +20,7 @@ shown (command.Check configuration) = to_check configuration.now
 -- `check --streams CONF`: these words and no others.
 -- Source: ours
 -- Rules out: a word too many that is overlooked; a number that is read in part
--- Stands in: `roam_stream_server` `StreamWords.antt`: `Asks`; `StreamCommand::from_words`
+-- Stands in: `roam_streams` `StreamWords.antt`: `Asks`; `StreamCommand::from_words`
 --
 -- the words ask for it
 abbrev pub Asks : List (List ℕ) → AskedOfStreams → Type 0

@@ -1,9 +1,9 @@
 //! Endpoints that stand twice.
 
 use crate::endpoints::endpoint_at;
+use crate::stream_config::StreamConfig;
 use roam_address::Endpoint;
 use roam_conf_reader::ConfFault;
-use roam_streams::StreamConfig;
 use std::alloc::Global;
 use toml::Table;
 

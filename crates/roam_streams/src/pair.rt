@@ -2,14 +2,15 @@
 
 use crate::dialed::Dialed;
 use crate::dialing::{dial, dialed};
+use crate::redial::Redial;
 use crate::shared::{DATAGRAMS_AT_ONCE, Shared};
+use crate::stream_fault::StreamFault;
 use crate::system::{System, is_want};
 use crate::taken::endpoint_of;
 use crate::why::Why;
 use log::Log;
 use mio::net::UdpSocket;
 use roam_address::Endpoint;
-use roam_streams::{Redial, StreamFault};
 use std::net::{Net, SocketAddr};
 
 /// A pair of a socket toward a home server and a source of requests.

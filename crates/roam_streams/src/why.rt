@@ -1,6 +1,6 @@
 //! The causes why a connection ends.
 
-use roam_streams::StreamFault;
+use crate::stream_fault::StreamFault;
 use std::fmt;
 
 /// The cause why a connection ends.

@@ -2,10 +2,10 @@
 
 use crate::counts::Counts;
 use crate::line_budget::LineBudget;
+use crate::stream_fault::StreamFault;
 use crate::why::Why;
 use log::{Log, info, warn};
 use roam_address::Endpoint;
-use roam_streams::StreamFault;
 
 /// The time in which the counts aren't told again, in milliseconds.
 const COUNTS_EVERY: u64 = 60_000;

@@ -1,7 +1,7 @@
 //! The words of a command line that are about streams.
 
 ghost use Rattle.std.specs.Prelude.{[], ◌∷◌, codes, map, MatchOption};
-ghost use Rattle.roam_stream_server.specs.StreamWords.{Asks, AsksNothing, shown};
+ghost use Rattle.roam_streams.specs.StreamWords.{Asks, AsksNothing, shown};
 
 use roam_conf::decimal;
 use std::convert::AsStr;

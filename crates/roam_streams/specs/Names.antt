@@ -1,7 +1,7 @@
 -- The marks under which the system has the sockets of streams (ours).
 use Rattle.std.specs.Prelude.{ℕ}
-use Rattle.roam_stream_server.specs.declared.tokens.SocketKind.{SocketKind}
-use Rattle.roam_stream_server.specs.declared.tokens.SocketKind.TheVariants as kind
+use Rattle.roam_streams.specs.declared.tokens.SocketKind.{SocketKind}
+use Rattle.roam_streams.specs.declared.tokens.SocketKind.TheVariants as kind
 
 -- the number of a kind of sockets
 abbrev pub number_of : SocketKind → ℕ

@@ -1,14 +1,15 @@
 //! The packets of a home server on their way to the realm.
 
+use crate::dialed_stream::Destination;
 use crate::dialing::bind_reverse;
 use crate::pair::Pair;
 use crate::shared::Shared;
+use crate::stream_fault::StreamFault;
 use crate::system::System;
 use crate::taken::endpoint_of;
 use crate::why::Why;
 use log::Log;
 use mio::net::UdpSocket;
-use roam_streams::{Destination, StreamFault};
 use std::net::Net;
 
 /// The most packets that are sent on at once: as many as a rest and a reading have.

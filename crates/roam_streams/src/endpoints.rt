@@ -2,7 +2,7 @@
 
 ghost use Rattle.std.specs.Prelude.{◌≡◌, ◌≤◌, IfOk};
 ghost use Rattle.std.specs.List.{list_all};
-ghost use Rattle.roam_stream_server.specs.Streams.{AreLocal, is_local};
+ghost use Rattle.roam_streams.specs.AskedStreams.{AreLocal, is_local};
 
 use roam_address::Endpoint;
 use roam_conf_reader::ConfFault;

@@ -1,7 +1,7 @@
 //! All connections and sockets, and what is known of their readiness.
 
 ghost use Rattle.std.specs.Prelude.{◌≡◌, ◌≤◌, ◌↔◌, IsTrue};
-ghost use Rattle.roam_stream_server.specs.Ends.{stays_until};
+ghost use Rattle.roam_streams.specs.Ends.{stays_until};
 
 use crate::accepting::Listening;
 use crate::at_socket::AtSocket;

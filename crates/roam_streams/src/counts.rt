@@ -2,7 +2,7 @@
 
 ghost use Rattle.std.specs.Prelude.{◌<◌};
 
-use roam_streams::StreamFault;
+use crate::stream_fault::StreamFault;
 use std::fmt;
 
 /// The faults that are counted, in the order of their numbers.

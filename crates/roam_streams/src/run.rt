@@ -3,6 +3,7 @@
 use crate::accepting::Listening;
 use crate::at_socket::AtSocket;
 use crate::shared::Shared;
+use crate::stream_config::{StreamConfig, StreamServer};
 use crate::stream_loop::StreamLoop;
 use crate::system::{System, bind_datagrams};
 use crate::tokens::{SocketKind, SocketName};
@@ -10,7 +11,6 @@ use log::Log;
 use mio::net::TcpListener;
 use mio::{Events, Interest, Poll};
 use roam_address::Endpoint;
-use roam_streams::{StreamConfig, StreamServer};
 use roam_system::{ServeFault, now, reason_of};
 use std::alloc::Global;
 use std::collections::VecDeque;

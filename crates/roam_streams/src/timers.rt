@@ -1,11 +1,11 @@
 //! The work that is due by the clock: connections that are silent end, packets that wait are looked at again, lines are
 //! told.
 
+use crate::stream_fault::StreamFault;
 use crate::stream_loop::StreamLoop;
 use crate::system::System;
 use crate::why::Why;
 use log::Log;
-use roam_streams::StreamFault;
 
 /// The time after which packets that wait are looked at again, in milliseconds.
 const HELD_EVERY: u64 = 10;

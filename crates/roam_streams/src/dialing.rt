@@ -1,14 +1,15 @@
 //! A home server is dialed, and the socket is bound from which its Disconnect- and CoA-Requests go to a realm.
 
 use crate::dialed::Dialed;
+use crate::dialed_stream::DialedStream;
 use crate::readiness::Readiness;
 use crate::shared::Shared;
+use crate::stream_fault::StreamFault;
 use crate::system::{System, bind_datagrams};
 use crate::tokens::{SocketKind, SocketName};
 use mio::Interest;
 use mio::net::{TcpStream, UdpSocket};
 use roam_address::Endpoint;
-use roam_streams::{DialedStream, StreamFault};
 use std::io;
 use std::net::{Net, SocketAddr};
 

@@ -1,11 +1,13 @@
 //! The parts that all connections use: the proxy's endpoints, room for what is received, the counts and the lines.
 
 use crate::counts::Counts;
+use crate::dialed_stream::is_request_packet;
+use crate::stream_config::StreamConfig;
+use crate::stream_fault::StreamFault;
 use crate::telling::Telling;
 use crate::why::Why;
 use log::Log;
 use roam_address::Endpoint;
-use roam_streams::{StreamConfig, StreamFault, is_request_packet};
 use std::alloc::{AllocError, Global};
 use std::net::SocketAddr;
 

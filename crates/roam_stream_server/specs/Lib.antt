@@ -1,4 +1,0 @@
-pub mod Names
-pub mod Ends
-pub mod Streams
-pub mod StreamWords
