@@ -1,12 +1,29 @@
 //! The program `roam`: does what the words of its command line ask for, and says how it ended.
 //!
-//! What is done stands in `roam_program`, the words and texts in `roam_cli`; here are the standard streams and the
-//! status alone.
+//! It serves, over texts and writers; what needs no server is done by `roam_cli`, and streams by `roam_streams`. The
+//! standard streams and the status stand in this file.
+//!
+//! # Proved
+//!
+//! - with status 0 what was asked for was done, over some texts; of a server no more than that it printed nothing, and
+//!   that some text is an accepted configuration. Nothing is reported, but by a check: advice | `command`: `done`,
+//!   `silent`; `tell_advice`
+//! - a server that ends by a fault was given an accepted configuration, but for being out of memory or the
+//!   refusal of that very file; so was one that ends without a fault | `serve_text`: `ok`, `err`
+//! - any other status is at most 4 and its fault's, which says what of the output it leaves, but for a refused
+//!   write; 2 comes exactly when nothing was asked for | `command`: `status`, `fault`, `usage`, `untouched`
 #![tactic(auto)]
 
+mod file_order;
+mod program;
+mod reload;
+mod serving;
+mod state_file;
+mod station_key;
+
+use crate::program::command;
 use log::Log;
 use roam_cli::Fault;
-use roam_program::command;
 use roam_streams::{ask_for_streams, stream_command};
 use roam_system::{
     Keeper, KeepsFiles, LogReader, Outlet, OutletWriter, ToOutlet, keep_on, log_reader, write_on,

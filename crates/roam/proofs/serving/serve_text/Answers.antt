@@ -1,8 +1,8 @@
 -- The file's text states the configuration that is served.
 use Rattle.roam_conf.specs.Shown.{shown}
 use Rattle.roam_cli.proofs.OutcomeLemmas.{accepted-text, unread-serves}
-use Rattle.roam_program.proofs.EndLemmas.{serve-fails}
-use Rattle.roam_program.proofs.serving.serve_text.Goals as goal
+use Rattle.roam.proofs.EndLemmas.{serve-fails}
+use Rattle.roam.proofs.serving.serve_text.Goals as goal
 
 pub returns-in-Ok-serve_stated-clause-ok : goal.returns-in-Ok-serve_stated-clause-ok
 returns-in-Ok-serve_stated-clause-ok g c = (

@@ -1,5 +1,5 @@
 use Rattle.roam_cli.proofs.PrintedLemmas.{printed_then}
-use Rattle.roam_program.proofs.reload.print_kept.Goals as goal
+use Rattle.roam.proofs.reload.print_kept.Goals as goal
 
 -- one line, and the other
 pub returns : goal.returns

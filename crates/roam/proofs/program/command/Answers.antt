@@ -1,7 +1,7 @@
 -- After the status of the usage the output is as it was.
 use Rattle.std.proofs.Common.{arith}
-use Rattle.roam_program.proofs.AnswerLemmas.{usage-keeps}
-use Rattle.roam_program.proofs.program.command.Goals as goal
+use Rattle.roam.proofs.AnswerLemmas.{usage-keeps}
+use Rattle.roam.proofs.program.command.Goals as goal
 
 pub returns-clause-untouched : goal.returns-clause-untouched
 returns-clause-untouched g c = λ two.

@@ -1,6 +1,6 @@
 use Rattle.std.proofs.Common.{inl, inr, map}
-use Rattle.roam_program.proofs.AnswerLemmas.{served-answers, served-prevents}
-use Rattle.roam_program.proofs.program.run.Goals as goal
+use Rattle.roam.proofs.AnswerLemmas.{served-answers, served-prevents}
+use Rattle.roam.proofs.program.run.Goals as goal
 
 -- The words ask for a server, which ended as it was asked to.
 pub returns-in-Some-Serve-clause-ok : goal.returns-in-Some-Serve-clause-ok

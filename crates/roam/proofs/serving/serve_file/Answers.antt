@@ -1,6 +1,6 @@
-use Rattle.roam_program.proofs.AnswerLemmas.{serve-prevents-all}
+use Rattle.roam.proofs.AnswerLemmas.{serve-prevents-all}
 use Rattle.roam_cli.proofs.UnreadLemmas.{unread-serve-prevents}
-use Rattle.roam_program.proofs.serving.serve_file.Goals as goal
+use Rattle.roam.proofs.serving.serve_file.Goals as goal
 
 -- The file isn't read.
 pub returns-in-Err-clause-err : goal.returns-in-Err-clause-err

@@ -1,6 +1,6 @@
 -- The status is that of the fault that prevents an answer.
-use Rattle.roam_program.proofs.AnswerLemmas.{usage-status}
-use Rattle.roam_program.proofs.program.answer.Goals as goal
+use Rattle.roam.proofs.AnswerLemmas.{usage-status}
+use Rattle.roam.proofs.program.answer.Goals as goal
 
 pub returns-clause-usage : goal.returns-clause-usage
 returns-clause-usage g c =

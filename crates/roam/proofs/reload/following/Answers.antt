@@ -2,7 +2,7 @@
 use Rattle.std.proofs.Common.{◌≡◌, ◌∙◌, Option, Some, None, IfNone, is_some, false, sym, true}
 use Rattle.roam_conf.specs.Shown.{shown}
 use Rattle.roam_reload.specs.Reload.{MayFollow}
-use Rattle.roam_program.proofs.reload.following.Goals as goal
+use Rattle.roam.proofs.reload.following.Goals as goal
 
 -- what holds where there is none holds
 none-holds : {X : Type 0} (P : Type 0) (o : Option X) → is_some o ≡ false → IfNone o P → P

@@ -1,5 +1,5 @@
 use Rattle.roam_cli.proofs.PrintedLemmas.{printed_then}
-use Rattle.roam_program.proofs.reload.print_report.Goals as goal
+use Rattle.roam.proofs.reload.print_report.Goals as goal
 
 -- what becomes of the realms, and what stays
 pub returns : goal.returns

@@ -1,7 +1,7 @@
 -- It is served with its own seed or with one that is drawn: its endpoints are the same.
 use Rattle.roam_conf.specs.Shown.{shown}
-use Rattle.roam_program.proofs.EndLemmas.{same-end}
-use Rattle.roam_program.proofs.serving.serve_stated.Goals as goal
+use Rattle.roam.proofs.EndLemmas.{same-end}
+use Rattle.roam.proofs.serving.serve_stated.Goals as goal
 
 pub returns-in-Ok : goal.returns-in-Ok
 returns-in-Ok g c =
