@@ -3,8 +3,8 @@ use Rattle.std.specs.Vec.Iter.{into_iter_items}
 use Rattle.std.proofs.Common.{◌≡◌, ◌+◌, ℕ, suc, List, length, Some, slice_get, ap, sym, subst, arith}
 use Rattle.roam_history.specs.Fronts.{FrontView}
 use Rattle.roam_history.specs.declared.blank.Blank.{Blank}
-use Rattle.test_calls.proofs.FrontLemmas.{push_shards}
-use Rattle.test_calls.proofs.seat_tests.seat_of.Goals as goal
+use Rattle.test_units.proofs.FrontLemmas.{push_shards}
+use Rattle.test_units.proofs.seat_tests.seat_of.Goals as goal
 
 pub named-head-requires : goal.named-head-requires
 named-head-requires g c =

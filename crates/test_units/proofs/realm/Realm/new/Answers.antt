@@ -1,4 +1,4 @@
-use Rattle.test_calls.proofs.realm.Realm.new.Goals as goal
+use Rattle.test_units.proofs.realm.Realm.new.Goals as goal
 
 -- the book is the first realm's, of this configuration
 pub invariant_of-result : goal.invariant_of-result

@@ -1,4 +1,4 @@
-//! All examples, in one test: a test costs the proof more than an example.
+//! Examples of calls that no row makes, and of what is told: the one test of `examples` asks for them.
 //!
 //! An example answers whether it is right, or the first of its cases that is wrong.
 
@@ -16,7 +16,7 @@ fn unless(is_right: bool, name: &'static str) -> Option<&'static str> {
 }
 
 /// Of each example the first case that is wrong.
-fn wrong_cases<R: Wait + Clock>(rt: &R, alloc: Global) -> [Option<&'static str>; 12] {
+pub fn wrong_cases<R: Wait + Clock>(rt: &R, alloc: Global) -> [Option<&'static str>; 12] {
     [
         unless(
             last_ticket::last_ticket_is_given_once(alloc),
@@ -52,13 +52,4 @@ fn wrong_cases<R: Wait + Clock>(rt: &R, alloc: Global) -> [Option<&'static str>;
             "a seed that is not drawn is told",
         ),
     ]
-}
-
-#[test]
-fn all_examples(rt: HostRuntime) {
-    for wrong in &wrong_cases(&rt, rt.alloc()) {
-        if let Some(case) = *wrong {
-            panic!(&rt; "{case}");
-        }
-    }
 }

@@ -1,7 +1,7 @@
 use Rattle.std.proofs.Common.{[]}
 use Rattle.roam_history.specs.Books.{books_of}
 use Rattle.roam_history.specs.HubOpening.{no_opening}
-use Rattle.test_calls.proofs.seat_tests.splits_are_refused.Given as goal
+use Rattle.test_units.proofs.seat_tests.splits_are_refused.Given as goal
 
 -- a hub of two shards
 abbrev pub ghosts-split_refused : goal.ghosts-split_refused

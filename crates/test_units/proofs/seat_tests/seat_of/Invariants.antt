@@ -2,7 +2,7 @@ use Rattle.std.specs.Vec.Iter.{into_iter_items, into_iter_len}
 use Rattle.std.proofs.Common.{◌≡◌, ◌+◌, ℕ, length, vec_len, Some, slice_get}
 use Rattle.roam_history.specs.Fronts.{AreOfShards}
 use Rattle.roam_history.specs.declared.blank.Blank.{Blank}
-use Rattle.test_calls.proofs.seat_tests.seat_of.Given as goal
+use Rattle.test_units.proofs.seat_tests.seat_of.Given as goal
 
 abbrev pub invariant-loop-blank : goal.invariant-loop-blank
 invariant-loop-blank g l = record {

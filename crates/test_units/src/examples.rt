@@ -3,9 +3,9 @@
 //! An example answers whether it is right, or the first of its cases that is wrong, by its text or by a number.
 
 use crate::{
-    address_tests, auth_tests, endpoint_tests, hide_tests, ids_tests, index_tests, keeping_tests,
-    ledger_tests, listening_tests, md5_tests, prefix_tests, random_tests, round_tests,
-    sending_tests, sockets_tests, wire_tests,
+    address_tests, auth_tests, call_examples, endpoint_tests, hide_tests, ids_tests, index_tests,
+    keeping_tests, ledger_tests, listening_tests, md5_tests, prefix_tests, random_tests,
+    round_tests, sending_tests, sockets_tests, wire_tests,
 };
 use std::alloc::Global;
 use std::process::Abort;
@@ -31,6 +31,15 @@ fn assert_no_number<R: Abort + AllocGlobal>(rt: &R, examples: &[&str], wrong: &[
     for (example, wrong) in examples.iter().zip(wrong) {
         if let Some(number) = *wrong {
             panic!(rt; "{example} {number}");
+        }
+    }
+}
+
+/// Asserts that no case is wrong.
+fn assert_no_case<R: Abort + AllocGlobal>(rt: &R, wrong: &[Option<&str>]) {
+    for wrong in wrong {
+        if let Some(case) = *wrong {
+            panic!(rt; "{case}");
         }
     }
 }
@@ -200,4 +209,5 @@ fn all_examples(rt: HostRuntime) {
     assert_right(&rt, &PARTS, &parts(alloc));
     assert_right(&rt, &PORTS, &ports(alloc));
     assert_right(&rt, &FILES, &files(&rt));
+    assert_no_case(&rt, &call_examples::wrong_cases(&rt, alloc));
 }
