@@ -24,7 +24,7 @@ ROOT = pathlib.Path(__file__).resolve().parent.parent
 # Crates whose check is worth several jobs, and how many.
 JOBS = {"roam_realm": 2, "roam_rules": 3, "roam_migrate": 2, "roam_core": 2, "roam_pending": 2, "roam_shard": 2, "roam_hub": 3, "roam_workers": 3,
         "roam_admin_thread": 3, "roam_epoch": 3, "roam_server": 3, "roam_cli": 2,
-        "roam_cli": 2, "roam": 3, "test_hub": 2}
+        "roam": 3, "test_hub": 2}
 # Processor minutes from nothing, as they were read last: what stands longest above a crate goes first.
 MINUTES = {crate: sum(of.values()) for crate, of in minutes.read(minutes.KEPT.read_text(encoding="utf-8")).items()}
 
