@@ -1,44 +1,15 @@
 -- What becomes of a realm.
 use Rattle.std.proofs.Common.{◌≡◌, ◌≢◌, ℕ, Bool, true, false, not, List, [], Option, Some, None, is_some, IfNone, IfSome, option_map, unwrap_or, slice_get, refl, ap, sym, ◌∙◌}
 use Rattle.std.proofs.lemmas.Bool.{false≢true, true≢false}
+use Rattle.std.specs.List.{AllByRecursion}
 use Rattle.std.specs.Prelude.{is_none}
-use Rattle.roam_conf.specs.declared.accounting.Accounting.TheVariants.{Forwarded}
 use Rattle.roam_conf.specs.Config.{ConfigView, PeerView, RealmView}
-use Rattle.roam_reload.specs.Differences.{IsOtherPeer, RealmsDiffer}
+use Rattle.roam_reload.specs.Differences.{IsOtherPeer, RealmsAgree, RealmsDiffer}
 use Rattle.roam_reload.specs.Reload.{IsCarried, IsUntouched, KeepsPeers, realm_part}
 use Rattle.roam_reload.specs.declared.keys.RealmKey.{RealmKey}
 use Rattle.roam_reload.specs.declared.keys.RealmKey.TheVariants.{Gone, Out, Reverse, Tries, Wait, Hold, MaxPending, MaxSessions, Rest, RestAfter, Servers, Peers, LoopPrevention, Accounting, RequestWithout, ReplyWithout, Share, PeerShare, OwnNames, Conversations, Balance, OwnSessions, CoaClients}
+use Rattle.roam_reload.specs.declared.keys.TheConstants.{REALM_KEYS}
 use Rattle.roam_reload.proofs.PeerLemmas.{kept_each}
-
--- some realm
-abbrev no_realm : RealmView
-no_realm = record {
-  name = [];
-  also = [];
-  out = [];
-  reverse = [];
-  tries = 0;
-  wait = 0;
-  hold = 0;
-  max_pending = 0;
-  max_sessions = 0;
-  rest = 0;
-  rest_after = 0;
-  servers = [];
-  peers = None;
-  loop_prevention = false;
-  accounting = Forwarded;
-  request_without = [];
-  reply_without = [];
-  share = None;
-  peer_share = None;
-  own_names = false;
-  conversations = false;
-  by_user = false;
-  own_sessions = false;
-  coa_clients = [];
-  gone = false;
-}
 
 -- realms that differ in a key have other parts
 other_part : (a b : RealmView) (key : RealmKey) → RealmsDiffer a b key → realm_part b ≢ realm_part a
@@ -65,6 +36,61 @@ other_part a b Balance d = λ e. d (ap (λ (x : RealmView). x.by_user) e)
 other_part a b OwnSessions d = λ e. d (ap (λ (x : RealmView). x.own_sessions) e)
 other_part a b CoaClients d = λ e. d (ap (λ (x : RealmView). x.coa_clients) e)
 other_part a b Servers d = λ e. d (ap (λ (x : RealmView). x.servers) e)
+
+-- realms that agree in each key are the same in this part
+pub same_part : (a b : RealmView) → RealmsAgree a b Gone → AllByRecursion (RealmsAgree a b) REALM_KEYS →
+    realm_part b ≡ realm_part a
+same_part a b gone (
+  out,
+  reverse,
+  servers,
+  clients,
+  peers,
+  guarded,
+  accounting,
+  request,
+  reply,
+  names,
+  conversations,
+  balance,
+  sessions,
+  tries,
+  wait,
+  hold,
+  rest,
+  rest_after,
+  pending,
+  remembered,
+  share,
+  peer_share,
+  none,
+) = λ i. record {
+  gone = gone i;
+  name = [];
+  also = [];
+  peers = peers i;
+  loop_prevention = guarded i;
+  accounting = accounting i;
+  request_without = request i;
+  reply_without = reply i;
+  share = share i;
+  peer_share = peer_share i;
+  own_names = names i;
+  conversations = conversations i;
+  by_user = balance i;
+  own_sessions = sessions i;
+  coa_clients = clients i;
+  out = out i;
+  reverse = reverse i;
+  tries = tries i;
+  wait = wait i;
+  hold = hold i;
+  max_pending = pending i;
+  max_sessions = remembered i;
+  rest = rest i;
+  rest_after = rest_after i;
+  servers = servers i;
+}
 
 -- both tables are there, and the same in this part
 pub untouched : (old new : ConfigView) (r : ℕ) (before after : RealmView) → IsCarried old new r →

@@ -16,32 +16,37 @@ use Rattle.roam_reload.specs.declared.keys.RealmKey.{RealmKey}
 use Rattle.roam_reload.specs.declared.keys.RealmKey.TheVariants as realm_key
 use Rattle.roam_reload.specs.declared.kind.PlaceKind.{PlaceKind}
 
--- the two tables of a realm differ in a key; the two of a peer
-abbrev pub RealmsDiffer : RealmView → RealmView → RealmKey → Type 0
-RealmsDiffer old new realm_key.Gone = new.gone ≢ old.gone
-RealmsDiffer old new realm_key.Out = new.out ≢ old.out
-RealmsDiffer old new realm_key.Reverse = new.reverse ≢ old.reverse
-RealmsDiffer old new realm_key.Tries = new.tries ≢ old.tries
-RealmsDiffer old new realm_key.Wait = new.wait ≢ old.wait
-RealmsDiffer old new realm_key.Hold = new.hold ≢ old.hold
-RealmsDiffer old new realm_key.MaxPending = new.max_pending ≢ old.max_pending
-RealmsDiffer old new realm_key.MaxSessions = new.max_sessions ≢ old.max_sessions
-RealmsDiffer old new realm_key.Rest = new.rest ≢ old.rest
-RealmsDiffer old new realm_key.RestAfter = new.rest_after ≢ old.rest_after
-RealmsDiffer old new realm_key.Servers = new.servers ≢ old.servers
-RealmsDiffer old new realm_key.Peers = new.peers ≢ old.peers
-RealmsDiffer old new realm_key.LoopPrevention = new.loop_prevention ≢ old.loop_prevention
-RealmsDiffer old new realm_key.Accounting = new.accounting ≢ old.accounting
-RealmsDiffer old new realm_key.RequestWithout = new.request_without ≢ old.request_without
-RealmsDiffer old new realm_key.ReplyWithout = new.reply_without ≢ old.reply_without
-RealmsDiffer old new realm_key.Share = new.share ≢ old.share
-RealmsDiffer old new realm_key.PeerShare = new.peer_share ≢ old.peer_share
-RealmsDiffer old new realm_key.OwnNames = new.own_names ≢ old.own_names
-RealmsDiffer old new realm_key.Conversations = new.conversations ≢ old.conversations
-RealmsDiffer old new realm_key.Balance = new.by_user ≢ old.by_user
-RealmsDiffer old new realm_key.OwnSessions = new.own_sessions ≢ old.own_sessions
-RealmsDiffer old new realm_key.CoaClients = new.coa_clients ≢ old.coa_clients
+-- the two tables of a realm are the same in a key
+abbrev pub RealmsAgree : RealmView → RealmView → RealmKey → Type 0
+RealmsAgree old new realm_key.Gone = new.gone ≡ old.gone
+RealmsAgree old new realm_key.Out = new.out ≡ old.out
+RealmsAgree old new realm_key.Reverse = new.reverse ≡ old.reverse
+RealmsAgree old new realm_key.Tries = new.tries ≡ old.tries
+RealmsAgree old new realm_key.Wait = new.wait ≡ old.wait
+RealmsAgree old new realm_key.Hold = new.hold ≡ old.hold
+RealmsAgree old new realm_key.MaxPending = new.max_pending ≡ old.max_pending
+RealmsAgree old new realm_key.MaxSessions = new.max_sessions ≡ old.max_sessions
+RealmsAgree old new realm_key.Rest = new.rest ≡ old.rest
+RealmsAgree old new realm_key.RestAfter = new.rest_after ≡ old.rest_after
+RealmsAgree old new realm_key.Servers = new.servers ≡ old.servers
+RealmsAgree old new realm_key.Peers = new.peers ≡ old.peers
+RealmsAgree old new realm_key.LoopPrevention = new.loop_prevention ≡ old.loop_prevention
+RealmsAgree old new realm_key.Accounting = new.accounting ≡ old.accounting
+RealmsAgree old new realm_key.RequestWithout = new.request_without ≡ old.request_without
+RealmsAgree old new realm_key.ReplyWithout = new.reply_without ≡ old.reply_without
+RealmsAgree old new realm_key.Share = new.share ≡ old.share
+RealmsAgree old new realm_key.PeerShare = new.peer_share ≡ old.peer_share
+RealmsAgree old new realm_key.OwnNames = new.own_names ≡ old.own_names
+RealmsAgree old new realm_key.Conversations = new.conversations ≡ old.conversations
+RealmsAgree old new realm_key.Balance = new.by_user ≡ old.by_user
+RealmsAgree old new realm_key.OwnSessions = new.own_sessions ≡ old.own_sessions
+RealmsAgree old new realm_key.CoaClients = new.coa_clients ≡ old.coa_clients
 
+-- they differ in it
+abbrev pub RealmsDiffer : RealmView → RealmView → RealmKey → Type 0
+RealmsDiffer old new key = ¬ (RealmsAgree old new key)
+
+-- the two tables of a peer differ in a key
 abbrev pub PeersDiffer : PeerView → PeerView → PeerKey → Type 0
 PeersDiffer old new peer_key.Gone = new.gone ≢ old.gone
 PeersDiffer old new peer_key.Name = new.name ≢ old.name

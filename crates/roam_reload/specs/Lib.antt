@@ -4,6 +4,5 @@ pub mod Reload
 pub mod Differences
 -- Words of private functions alone.
 pub mod Moves
-pub mod SameLimits
 pub mod Sources
 pub mod Laying
